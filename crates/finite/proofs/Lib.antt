@@ -1,0 +1,4 @@
+pub mod Int
+pub mod Order
+pub mod Sum
+pub mod Weighted

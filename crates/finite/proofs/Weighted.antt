@@ -1,0 +1,52 @@
+-- Sums with weights that are naturals. Each premise may use that its weight is not 0.
+use mathlib.Core.Path.{_≡_, refl, sym, ap, _∙_, subst}
+use mathlib.Core.Logic.{_⊎_, inl, inr}
+use Prim.Native.Nat.{ℕ, zero, suc, _+_, _*_, _≤_, _<_}
+use native.Mathlib.Nat.{eq-zero-or-pos}
+use lib.IntN.{ℤ, pos, _+ℤ_, _*ℤ_, zero-*ℤ, *ℤ-comm}
+use lib.Signed.{_≤ℤ_, ≤ℤ-refl}
+use Rattle.finite.specs.Range.{sum, sum2}
+use Rattle.finite.proofs.Order.{scale-mono}
+use Rattle.finite.proofs.Sum.{sum2-cong, sum2-mono, sum2-scale}
+
+-- two terms with one weight are equal where the values are, if the weight is not 0
+pub term-cong : (w : ℕ) (x y : ℤ) → (0 < w → x ≡ y) → pos w *ℤ x ≡ pos w *ℤ y
+term-cong w x y h = go (eq-zero-or-pos w)
+  where
+    go : (w ≡ 0) ⊎ (0 < w) → pos w *ℤ x ≡ pos w *ℤ y
+    go (inl e) = rw e (zero-*ℤ x ∙ sym (zero-*ℤ y))
+    go (inr p) = ap (λ t. pos w *ℤ t) (h p)
+
+term-mono : (w : ℕ) (x y : ℤ) → (0 < w → x ≤ℤ y) → (pos w *ℤ x) ≤ℤ (pos w *ℤ y)
+term-mono w x y h = go (eq-zero-or-pos w)
+  where
+    go : (w ≡ 0) ⊎ (0 < w) → (pos w *ℤ x) ≤ℤ (pos w *ℤ y)
+    go (inl e) = rw e (subst (λ t. (pos 0 *ℤ x) ≤ℤ t) (zero-*ℤ x ∙ sym (zero-*ℤ y)) (≤ℤ-refl (pos 0 *ℤ x)))
+    go (inr p) = scale-mono w (h p)
+
+module _ (n m : ℕ) (w : ℕ → ℕ → ℕ) (f : ℕ → ℕ → ℤ) (x : ℤ) where
+  scaled : sum2 n m (λ a b. pos (w a b)) *ℤ x ≡ sum2 n m (λ a b. pos (w a b) *ℤ x)
+  scaled =
+      *ℤ-comm (sum2 n m (λ a b. pos (w a b))) x
+      ∙ sym (sum2-scale n m x (λ a b. pos (w a b)))
+      ∙ sum2-cong n m (λ a b. x *ℤ pos (w a b)) (λ a b. pos (w a b) *ℤ x) (λ a b la lb. *ℤ-comm x (pos (w a b)))
+
+  -- a bound of every value that has a weight bounds the weighted sum
+  pub weighted-low : ((a b : ℕ) → a < n → b < m → 0 < w a b → x ≤ℤ f a b)
+      → (sum2 n m (λ a b. pos (w a b)) *ℤ x) ≤ℤ (sum2 n m (λ a b. pos (w a b) *ℤ f a b))
+  weighted-low h =
+      rw scaled
+      (sum2-mono n m (λ a b. pos (w a b) *ℤ x) (λ a b. pos (w a b) *ℤ f a b) (λ a b la lb. term-mono (w a b) x (f a b) (h a b la lb)))
+
+  pub weighted-high : ((a b : ℕ) → a < n → b < m → 0 < w a b → f a b ≤ℤ x)
+      → (sum2 n m (λ a b. pos (w a b) *ℤ f a b)) ≤ℤ (sum2 n m (λ a b. pos (w a b)) *ℤ x)
+  weighted-high h =
+      rw scaled
+      (sum2-mono n m (λ a b. pos (w a b) *ℤ f a b) (λ a b. pos (w a b) *ℤ x) (λ a b la lb. term-mono (w a b) (f a b) x (h a b la lb)))
+
+pub weighted-cong : (n m : ℕ) (w : ℕ → ℕ → ℕ) (f g : ℕ → ℕ → ℤ)
+    → ((a b : ℕ) → a < n → b < m → 0 < w a b → f a b ≡ g a b)
+    → sum2 n m (λ a b. pos (w a b) *ℤ f a b) ≡ sum2 n m (λ a b. pos (w a b) *ℤ g a b)
+weighted-cong n m w f g h =
+    sum2-cong n m (λ a b. pos (w a b) *ℤ f a b) (λ a b. pos (w a b) *ℤ g a b)
+    (λ a b la lb. term-cong (w a b) (f a b) (g a b) (h a b la lb))
