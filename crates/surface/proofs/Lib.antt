@@ -1,1 +1,4 @@
 pub mod SplineWeight
+pub mod Least
+pub mod Parents
+pub mod Carried

@@ -4,3 +4,4 @@ pub mod Support
 pub mod Spline
 pub mod Truncation
 pub mod Carry
+pub mod Patch

@@ -1,0 +1,132 @@
+-- The least level under a support: bounds, and that it rises from a function to its children and with the regions.
+use mathlib.Core.Path.{_≡_, refl, sym, ap, _∙_, subst}
+use mathlib.Core.Bool.{Bool, true, false, _&&_, cond}
+use Prim.Native.Nat.{ℕ, zero, suc, _+_, _-_, _*_, _≤_, _<_, min}
+use native.Mathlib.Nat.{le-refl, le-trans, min-le-left, min-le-right, le-min, le-of-eq, lt-suc-self, le-step, mul-le-mul-right}
+use native.Mathlib.Nat.{mul-assoc, mul-comm, add-mul}
+use native.Mathlib.Decide.{decLt}
+use native.Mathlib.Omega.{arith}
+use lib.Dec.{ltb, leb}
+use borrow.Author.Tests.{ltb-true, ltb-false, lt-ltb, leb-true, leb-false, le-leb, lt-leb}
+use Rattle.finite.specs.Range.{least}
+use Rattle.surface.specs.Sheet.{eighths, steps, quarters}
+use Rattle.surface.specs.Support.{lowEnd, highEnd, shares, holdsAlong, holds, leastWhere, leastUnder}
+use Rattle.surface.specs.Truncation.{weight}
+use Rattle.surface.proofs.SplineWeight.{weight-parent, eighths-step}
+
+-- ---- minima over a range
+
+pub least-le-top : (top n : ℕ) (f : ℕ → ℕ) → least top n f ≤ top
+unfolding least
+least-le-top top zero f = le-refl top
+least-le-top top (suc n) f = le-trans (min-le-left (least top n f) (f n)) (least-le-top top n f)
+
+pub least-le : (top n : ℕ) (f : ℕ → ℕ) (k : ℕ) → k < n → least top n f ≤ f k
+unfolding least
+least-le top zero f k h = absurd (omega arith)
+least-le top (suc n) f k h = go (λ l. least-le top n f k l) (decLt k n)
+  where
+    go : (k < n → least top n f ≤ f k) → Dec (k < n) → min (least top n f) (f n) ≤ f k
+    go ih (yes l) = le-trans (min-le-left (least top n f) (f n)) (ih l)
+    go ih (no l) = let e : k ≡ n = omega arith in rw e (min-le-right (least top n f) (f n))
+
+pub le-least : (top n m : ℕ) (f : ℕ → ℕ) → m ≤ top → ((k : ℕ) → k < n → m ≤ f k) → m ≤ least top n f
+unfolding least
+le-least top zero m f t h = t
+le-least top (suc n) m f t h = le-min (le-least top n m f t (λ k l. h k (le-step l))) (h n (lt-suc-self n))
+
+-- ---- tests that are conjunctions
+
+pub both : (a b : Bool) → (a && b) ≡ true → (a ≡ true) × (b ≡ true)
+both true b e = (refl, e)
+both false b e = absurd (subst lib.Dec.T (sym e) tt)
+
+pub and-intro : (a b : Bool) → a ≡ true → b ≡ true → (a && b) ≡ true
+and-intro a b p q = rw (p, q)
+
+-- two orders tested together
+pub lts-true : (a b c d : ℕ) → (ltb a b && ltb c d) ≡ true → (a < b) × (c < d)
+lts-true a b c d e = (ltb-true a b (both (ltb a b) (ltb c d) e .0), ltb-true c d (both (ltb a b) (ltb c d) e .1))
+
+pub lts-intro : (a b c d : ℕ) → a < b → c < d → (ltb a b && ltb c d) ≡ true
+lts-intro a b c d p q = and-intro (ltb a b) (ltb c d) (lt-ltb a b p) (lt-ltb c d q)
+
+pub pick : (b : Bool) (P : Bool → Type 0) → (b ≡ true → P true) → (b ≡ false → P false) → P b
+pick true P t f = t refl
+pick false P t f = f refl
+
+-- ---- minima over the quarter squares of the sheet
+
+module _ (W H : ℕ) where
+  pub leastWhere-le : (lev : ℕ → ℕ → ℕ) (p : ℕ → ℕ → Bool) (q r : ℕ) → q < quarters W → r < quarters H → p q r ≡ true
+      → leastWhere W H lev p ≤ lev q r
+  leastWhere-le lev p q r hq hr e =
+      le-trans (least-le 3 (quarters W) (λ q. least 3 (quarters H) (λ r. cond (p q r) (lev q r) 3)) q hq)
+      (subst (λ t. least 3 (quarters H) (λ r. cond (p q r) (lev q r) 3) ≤ cond t (lev q r) 3) e
+      (least-le 3 (quarters H) (λ r. cond (p q r) (lev q r) 3) r hr))
+
+  pub le-leastWhere : (m : ℕ) (lev : ℕ → ℕ → ℕ) (p : ℕ → ℕ → Bool) → m ≤ 3
+      → ((q r : ℕ) → q < quarters W → r < quarters H → p q r ≡ true → m ≤ lev q r) → m ≤ leastWhere W H lev p
+  le-leastWhere m lev p t h =
+      le-least 3 (quarters W) m (λ q. least 3 (quarters H) (λ r. cond (p q r) (lev q r) 3)) t
+      λ q hq. le-least 3 (quarters H) m (λ r. cond (p q r) (lev q r) 3) t
+      λ r hr. pick (p q r) (λ b. m ≤ cond b (lev q r) 3) (h q r hq hr) (λ _. t)
+
+  pub leastUnder-le-3 : (lev : ℕ → ℕ → ℕ) (L a b : ℕ) → leastUnder W H lev L a b ≤ 3
+  unfolding leastUnder
+  leastUnder-le-3 lev L a b = least-le-top 3 (quarters W) _
+
+  -- regions that rise raise the least level under each support
+  pub leastUnder-raise : (old new : ℕ → ℕ → ℕ) → ((q r : ℕ) → old q r ≤ new q r) → (L a b : ℕ)
+      → leastUnder W H old L a b ≤ leastUnder W H new L a b
+  unfolding leastUnder
+  leastUnder-raise old new h L a b =
+      let p : ℕ → ℕ → Bool = λ q r. shares W L a q && shares H L b r in
+      le-leastWhere (leastWhere W H old p) new p (least-le-top 3 (quarters W) _)
+      (λ q r hq hr e. le-trans (leastWhere-le old p q r hq hr e) (h q r))
+
+-- ---- a parent's support contains its children's
+
+module _ (n L : ℕ) (l : L < 3) (a c : ℕ) (w : 0 < weight a c) where
+  -- with cells of side x at level L + 1: the parent's ends reach as far as the child's
+  low-ends : (x : ℕ) → a * (2 * x) ≤ c * x + 3 * x
+  low-ends x =
+      subst (λ t. t ≤ c * x + 3 * x) (mul-comm x (2 * a) ∙ ap (λ t. t * x) (mul-comm 2 a) ∙ mul-assoc a 2 x)
+      (subst (λ t. x * (2 * a) ≤ t) (mul-comm x (c + 3) ∙ add-mul c 3 x) (native.Mathlib.Nat.mul-le-mul-left x (weight-parent a c w .0)))
+
+  high-ends : (x : ℕ) → (c + 1) * x ≤ (a + 1) * (2 * x)
+  high-ends x =
+      let h : c + 1 ≤ (a + 1) * 2 = omega (arith, weight-parent a c w .1) in
+      subst (λ t. (c + 1) * x ≤ t) (mul-assoc (a + 1) 2 x) (mul-le-mul-right x h)
+
+  pub shares-parent : (q : ℕ) → shares n (suc L) c q ≡ true → shares n L a q ≡ true
+  shares-parent q e =
+      let x = eighths (suc L) in
+      let es : (lowEnd (suc L) c < 2 * q + 2) × (2 * q < highEnd n (suc L) c) =
+      lts-true (lowEnd (suc L) c) (2 * q + 2) (2 * q) (highEnd n (suc L) c) e in
+      let s : eighths L ≡ 2 * x = eighths-step L l in
+      let low : a * (2 * x) - 3 * (2 * x) < 2 * q + 2 = omega (arith, low-ends x) in
+      let high : 2 * q < min ((a + 1) * (2 * x)) (8 * n) = omega (arith, high-ends x) in
+      lts-intro (lowEnd L a) (2 * q + 2) (2 * q) (highEnd n L a) (rw s low) (rw s high)
+
+  pub holds-parent : (u : ℕ) → holdsAlong (suc L) c u ≡ true → holdsAlong L a u ≡ true
+  holds-parent u e =
+      let x = steps (suc L) in
+      let es : (c * x < u + 3 * x) × (u < (c + 1) * x) = lts-true (c * x) (u + 3 * x) u ((c + 1) * x) e in
+      let s : steps L ≡ 2 * x = omega (arith, eighths-step L l) in
+      let low : a * (2 * x) < u + 3 * (2 * x) = omega (arith, low-ends x) in
+      let high : u < (a + 1) * (2 * x) = omega (arith, high-ends x) in
+      lts-intro (a * steps L) (u + 3 * steps L) u ((a + 1) * steps L) (rw s low) (rw s high)
+
+-- "the least level under a parent is at most that under its child"
+pub leastUnder-parent : (W H : ℕ) (lev : ℕ → ℕ → ℕ) (L : ℕ) → L < 3 → (a b c d : ℕ) → 0 < weight a c → 0 < weight b d
+    → leastUnder W H lev L a b ≤ leastUnder W H lev (suc L) c d
+unfolding leastUnder
+leastUnder-parent W H lev L l a b c d wa wb =
+    let p : ℕ → ℕ → Bool = λ q r. shares W L a q && shares H L b r in
+    let p′ : ℕ → ℕ → Bool = λ q r. shares W (suc L) c q && shares H (suc L) d r in
+    le-leastWhere W H (leastWhere W H lev p) lev p′ (least-le-top 3 (quarters W) _)
+    (λ q r hq hr e. leastWhere-le W H lev p q r hq hr
+    (and-intro (shares W L a q) (shares H L b r)
+    (shares-parent W L l a c wa q (both (shares W (suc L) c q) (shares H (suc L) d r) e .0))
+    (shares-parent H L l b d wb r (both (shares W (suc L) c q) (shares H (suc L) d r) e .1))))

@@ -1,0 +1,94 @@
+-- The two-scale sum over a function's parents: three terms in each direction, with weights that add up to 8.
+use mathlib.Core.Path.{_≡_, refl, sym, ap, _∙_, subst}
+use mathlib.Core.Logic.{_⊎_, inl, inr}
+use mathlib.Core.Bool.{Bool, true, false, cond}
+use Prim.Native.Nat.{ℕ, zero, suc, _+_, _-_, _*_, _/_, _%_, _^_, _≤_, _<_}
+use native.Mathlib.Nat.{add-zero, mul-comm, mul-assoc, pow-succ', mul-left-comm}
+use native.Mathlib.Omega.{arith}
+use lib.IntN.{ℤ, pos, _+ℤ_, _*ℤ_, zero-*ℤ, +ℤ-idr, +ℤ-idl, +ℤ-assoc}
+use Rattle.finite.specs.Range.{sum, sum2}
+use Rattle.finite.proofs.Int.{*ℤ-assoc, *ℤ-left-comm, one-*ℤ}
+use Rattle.finite.proofs.Sum.{sum-window, sum-cong, sum-scale, sum2-cong, sum2-product}
+use Rattle.surface.specs.Sheet.{cells, functions}
+use Rattle.surface.specs.Truncation.{weight, weight2}
+use Rattle.surface.specs.Patch.{stencil}
+use Rattle.surface.proofs.SplineWeight.{weight-even-0, weight-even-1, weight-even-low, weight-even-high}
+use Rattle.surface.proofs.SplineWeight.{weight-odd-0, weight-odd-1, weight-odd-2, weight-odd-low, weight-odd-high}
+
+pub functions-step : (n L : ℕ) → functions n (suc L) + 3 ≡ 2 * functions n L
+functions-step n L =
+    let e : n * 2 ^ suc L ≡ 2 * (n * 2 ^ L) = ap (λ t. n * t) (pow-succ' 2 L) ∙ mul-left-comm n 2 (2 ^ L) in omega arith
+
+-- a number is even or odd
+pub parity : (c : ℕ) → ((m : ℕ) × (c ≡ 2 * m)) ⊎ ((m : ℕ) × (c ≡ 2 * m + 1))
+parity zero = inl (0, refl)
+parity (suc c) = go (parity c)
+  where
+    go : ((m : ℕ) × (c ≡ 2 * m)) ⊎ ((m : ℕ) × (c ≡ 2 * m + 1)) → ((m : ℕ) × (suc c ≡ 2 * m)) ⊎ ((m : ℕ) × (suc c ≡ 2 * m + 1))
+    go (inl (m, e)) = inr (m, omega arith)
+    go (inr (m, e)) = inl (m + 1, omega arith)
+
+zero-term : (w : ℕ) (x : ℤ) → w ≡ 0 → pos w *ℤ x ≡ pos 0
+zero-term w x e = rw e (zero-*ℤ x)
+
+-- the sum over all functions of level L is that over the child's three possible parents
+pub parents : (n L c : ℕ) (f : ℕ → ℤ) → c < functions n (suc L)
+    → sum (functions n L) (λ a. pos (weight a c) *ℤ f a) ≡ sum 3 (λ i. pos (stencil c i) *ℤ f (c / 2 + i))
+unfolding sum
+parents n L c f h = go (parity c)
+  where
+    go : ((m : ℕ) × (c ≡ 2 * m)) ⊎ ((m : ℕ) × (c ≡ 2 * m + 1))
+        → sum (functions n L) (λ a. pos (weight a c) *ℤ f a) ≡ sum 3 (λ i. pos (stencil c i) *ℤ f (c / 2 + i))
+    go (inl (m, e)) =
+        let half : c / 2 ≡ m = omega arith in
+        let rem : c % 2 ≡ 0 = omega arith in
+        sum-window (functions n L) m 2 (λ a. pos (weight a c) *ℤ f a) (omega (arith, functions-step n L))
+        (λ a l. zero-term (weight a c) (f a) (rw e (weight-even-low m a l)))
+        (λ a l. zero-term (weight a c) (f a) (rw e (weight-even-high m a l)))
+        ∙ rw (half, rem, add-zero m, e, weight-even-0 m, weight-even-1 m, zero-*ℤ (f (m + 2)), +ℤ-idr)
+    go (inr (m, e)) =
+        let half : c / 2 ≡ m = omega arith in
+        let rem : c % 2 ≡ 1 = omega arith in
+        sum-window (functions n L) m 3 (λ a. pos (weight a c) *ℤ f a) (omega (arith, functions-step n L))
+        (λ a l. zero-term (weight a c) (f a) (rw e (weight-odd-low m a l)))
+        (λ a l. zero-term (weight a c) (f a) (rw e (weight-odd-high m a l)))
+        ∙ rw (half, rem, add-zero m, e, weight-odd-0 m, weight-odd-1 m, weight-odd-2 m)
+
+-- "each child's sum needs 8"
+pub weights-sum : (n L c : ℕ) → c < functions n (suc L) → sum (functions n L) (λ a. pos (weight a c)) ≡ pos 8
+unfolding sum
+weights-sum n L c h =
+    sum-cong (functions n L) (λ a. pos (weight a c)) (λ a. pos (weight a c) *ℤ pos 1)
+    (λ a l. ap pos (sym (native.Mathlib.Nat.mul-one (weight a c))))
+    ∙ parents n L c (λ _. pos 1) h
+    ∙ go (parity c)
+  where
+    go : ((m : ℕ) × (c ≡ 2 * m)) ⊎ ((m : ℕ) × (c ≡ 2 * m + 1)) → sum 3 (λ i. pos (stencil c i) *ℤ pos 1) ≡ pos 8
+    go (inl (m, e)) = let rem : c % 2 ≡ 0 = omega arith in rw rem
+    go (inr (m, e)) = let rem : c % 2 ≡ 1 = omega arith in rw rem
+
+module _ (W H L c d : ℕ) (hc : c < functions W (suc L)) (hd : d < functions H (suc L)) where
+  -- in both directions
+  pub weights2-sum : sum2 (functions W L) (functions H L) (λ a b. weight2 a b c d) ≡ pos 64
+  weights2-sum =
+      sum2-product (functions W L) (functions H L) (λ a. pos (weight a c)) (λ b. pos (weight b d))
+      ∙ rw (weights-sum W L c hc, weights-sum H L d hd)
+
+  pub parents2 : (f : ℕ → ℕ → ℤ)
+      → sum2 (functions W L) (functions H L) (λ a b. weight2 a b c d *ℤ f a b)
+      ≡ sum2 3 3 (λ i j. pos (stencil c i * stencil d j) *ℤ f (c / 2 + i) (d / 2 + j))
+  parents2 f =
+      sum-cong (functions W L) (λ a. sum (functions H L) (λ b. weight2 a b c d *ℤ f a b))
+      (λ a. pos (weight a c) *ℤ sum 3 (λ j. pos (stencil d j) *ℤ f a (d / 2 + j)))
+      (λ a l. split a (λ b. weight b d) (functions H L) (λ b. f a b) (weight a c)
+      ∙ ap (λ t. pos (weight a c) *ℤ t) (parents H L d (λ b. f a b) hd))
+      ∙ parents W L c (λ a. sum 3 (λ j. pos (stencil d j) *ℤ f a (d / 2 + j))) hc
+      ∙ sum-cong 3 (λ i. pos (stencil c i) *ℤ sum 3 (λ j. pos (stencil d j) *ℤ f (c / 2 + i) (d / 2 + j)))
+      (λ i. sum 3 (λ j. pos (stencil c i * stencil d j) *ℤ f (c / 2 + i) (d / 2 + j)))
+      (λ i l. sym (split i (λ j. stencil d j) 3 (λ j. f (c / 2 + i) (d / 2 + j)) (stencil c i)))
+    where
+      split : (a : ℕ) (w : ℕ → ℕ) (n : ℕ) (g : ℕ → ℤ) (x : ℕ)
+          → sum n (λ b. pos (x * w b) *ℤ g b) ≡ pos x *ℤ sum n (λ b. pos (w b) *ℤ g b)
+      split a w n g x =
+          sum-cong n (λ b. pos (x * w b) *ℤ g b) (λ b. pos x *ℤ (pos (w b) *ℤ g b)) (λ b l. *ℤ-assoc (pos x) (pos (w b)) (g b))
+          ∙ sum-scale n (pos x) (λ b. pos (w b) *ℤ g b)

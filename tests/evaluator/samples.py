@@ -1,0 +1,123 @@
+"""Random tables, boxes, insertions and points, made from a seeded generator."""
+from __future__ import annotations
+
+from random import Random
+from typing import List, NamedTuple, Sequence, Tuple
+
+import calls
+import tree as quadtree
+from surface import LEVELS, QUARTERS_PER_CELL, STEPS_PER_CELL, TREE_SIDE, Box, LevelMap, Surface, coefficient_limit
+
+Point = Tuple[int, int]
+
+
+class Table(NamedTuple):
+    """Document 01, Calls: 'A table is a sheet, a tree and a coefficient slice'."""
+
+    w: int
+    h: int
+    tree: List[int]
+    coefficients: List[int]
+
+    def surface(self) -> Surface:
+        return calls.surface_of(self.w, self.h, self.tree)
+
+
+class Insertion(NamedTuple):
+    """Document 01, What each call is held to, 5: an insertion has 'its own box, level and outputs'."""
+
+    box: Box
+    level: int
+    tree_out: List[int]
+    coefficients_out: List[int]
+
+
+def random_box(rng: Random, w: int, h: int) -> Box:
+    u0, u1 = sorted(rng.sample(range(QUARTERS_PER_CELL * w + 1), 2))
+    v0, v1 = sorted(rng.sample(range(QUARTERS_PER_CELL * h + 1), 2))
+    return u0, v0, u1, v1
+
+
+# A level map with up to the given number of random boxes, each raised to a random level.
+def random_levels(rng: Random, w: int, h: int, boxes: int) -> LevelMap:
+    levels: LevelMap = tuple((0,) * TREE_SIDE for _ in range(TREE_SIDE))
+    for _ in range(rng.randint(1, boxes)):
+        levels = quadtree.raised(levels, random_box(rng, w, h), rng.choice((1, 2, 3, 3)))
+    return levels
+
+
+# A level map with a level drawn for each quarter square, so that the tree is large.
+def speckled_levels(rng: Random, w: int, h: int, choices: Sequence[int]) -> LevelMap:
+    wide, high = QUARTERS_PER_CELL * w, QUARTERS_PER_CELL * h
+    return tuple(
+        tuple(rng.choice(choices) if u < wide and v < high else 0 for u in range(TREE_SIDE))
+        for v in range(TREE_SIDE)
+    )
+
+
+# Coefficients within a share of their limit at the active places, 0 at the passive ones.
+def random_coefficients(rng: Random, surface: Surface, share: int = 1) -> List[int]:
+    coefficients = []
+    for limit in surface.limits():
+        if limit is None:
+            coefficients.append(0)
+        elif share == 1 and rng.random() < 0.2:
+            coefficients.append(rng.choice((-limit, limit)))
+        else:
+            coefficients.append(rng.randint(-(limit // share), limit // share))
+    return coefficients
+
+
+# The same watts at every active function.
+def equal_coefficients(surface: Surface, watts: int) -> List[int]:
+    return [
+        watts * 64**level if surface.active(level, i, j) else 0
+        for level in LEVELS
+        for i, j in surface.functions(level)
+    ]
+
+
+def table_of(rng: Random, w: int, h: int, levels: LevelMap, share: int = 1) -> Table:
+    tree = quadtree.tree_of(levels)
+    return Table(w, h, tree, random_coefficients(rng, calls.surface_of(w, h, tree), share))
+
+
+def random_table(rng: Random, w: int, h: int, boxes: int = 4, share: int = 1) -> Table:
+    return table_of(rng, w, h, random_levels(rng, w, h, boxes), share)
+
+
+# A random insertion into a table of the given size; about one in three is of a kind that is refused.
+def random_insertion(rng: Random, w: int, h: int, total: int) -> Insertion:
+    box, level = random_box(rng, w, h), rng.choice((1, 2, 3))
+    tree_length, numbers = quadtree.GREATEST_TREE, total
+    fault = rng.choice((0, 0, 0, 0, 0, 0, 0, 7, 8, 16, 17))
+    if fault == 7:
+        u0, v0, u1, v1 = box
+        box = rng.choice(((u1, v0, u0, v1), (u0, v0, u1, v0), (u0, v0, QUARTERS_PER_CELL * w + 1, v1), (-1, 0, 1, 1)))
+    elif fault == 8:
+        level = rng.choice((-1, 0, 4))
+    elif fault == 16:
+        numbers += rng.choice((-1, 1))
+    elif fault == 17:
+        tree_length = 0
+    return Insertion(box, level, [9] * tree_length, [7] * numbers)
+
+
+# Points at knots, edges and between, far edges included.
+def random_points(rng: Random, w: int, h: int, count: int) -> List[Point]:
+    def place(side: int) -> int:
+        end = STEPS_PER_CELL * side
+        return rng.choice((0, end, rng.randint(0, end), rng.randint(0, end), 16 * rng.randint(0, 8 * side)))
+
+    return [(place(w), place(h)) for _ in range(count)]
+
+
+# Four by four points in every closed cell of level 3. A reading is bicubic on each such cell, so two readings that
+# agree at these points agree at every point of the sheet.
+def deciding_points(w: int, h: int) -> List[Point]:
+    def places(side: int) -> List[int]:
+        cell = STEPS_PER_CELL // 8
+        inner = [cell * c + offset for c in range(8 * side) for offset in (0, 5, 11)]
+        return inner + [STEPS_PER_CELL * side]
+
+    return [(u, v) for v in places(h) for u in places(w)]

@@ -1,0 +1,126 @@
+"""The table file of document 01: a writer for test files, and the judging of a file in byte order."""
+from __future__ import annotations
+
+from typing import List, NamedTuple, Optional, Sequence, Tuple, Union
+
+import tree as quadtree
+from surface import LEVELS, Surface, coefficient_limit, side_allowed
+
+TAG_SIDES = 1
+TAG_TREE = 2
+TAG_LEVEL_0 = 16
+HEAD = 3
+COEFFICIENT_BYTES = 5
+
+
+class Content(NamedTuple):
+    """What a good file holds."""
+
+    w: int
+    h: int
+    tree: List[int]
+    coefficients: List[int]
+
+
+# Document 01, The table file: 'a one-byte tag, a two-byte length (high byte first) and a body'.
+def field(tag: int, body: Sequence[int], length: Optional[int] = None) -> bytes:
+    told = len(body) if length is None else length
+    return bytes([tag]) + told.to_bytes(2, "big") + bytes(body)
+
+
+# Document 01, The table file: 'five bytes each, two's complement, high byte first'.
+def coefficient_bytes(coefficient: int) -> bytes:
+    return coefficient.to_bytes(COEFFICIENT_BYTES, "big", signed=True)
+
+
+# Document 01, The table file: the six fields 'in this order, all present', of a table that need not be acceptable
+# in its coefficients but has a tree of the given form.
+def table_fields(w: int, h: int, tree: Sequence[int], coefficients: Sequence[int]) -> List[Tuple[int, bytes]]:
+    levels = quadtree.level_map(tree, w, h)
+    if levels is None:
+        raise quadtree.Damaged("the tree is not of the form of document 01")
+    surface = Surface(w, h, levels)
+    fields = [(TAG_SIDES, bytes([w, h])), (TAG_TREE, bytes(tree))]
+    for level in LEVELS:
+        places = [surface.place(level, i, j) for i, j in surface.active_functions(level)]
+        fields.append((TAG_LEVEL_0 + level, b"".join(coefficient_bytes(coefficients[p]) for p in places)))
+    return fields
+
+
+# Document 01, The table file: the file of a table.
+def write_file(w: int, h: int, tree: Sequence[int], coefficients: Sequence[int]) -> bytes:
+    return b"".join(field(tag, body) for tag, body in table_fields(w, h, tree, coefficients))
+
+
+class Refused(Exception):
+    """A refusal number on the way through a file."""
+
+    def __init__(self, number: int) -> None:
+        super().__init__(number)
+        self.number = number
+
+
+class _Reader:
+    """Document 01, Calls: 'judged in byte order: whole head, tag, length, whole body, contents'."""
+
+    def __init__(self, file: bytes) -> None:
+        self.file = file
+        self.at = 0
+
+    def body(self, tag: int, least: int, greatest: int) -> bytes:
+        head = self.file[self.at : self.at + HEAD]
+        if len(head) < HEAD:
+            raise Refused(12)
+        if head[0] != tag:
+            raise Refused(13)
+        length = int.from_bytes(head[1:], "big")
+        if not least <= length <= greatest:
+            raise Refused(14)
+        body = self.file[self.at + HEAD : self.at + HEAD + length]
+        if len(body) < length:
+            raise Refused(12)
+        self.at += HEAD + length
+        return body
+
+
+# Document 01, The table file: the coefficients of one level's body, judged against the limit.
+def _level_coefficients(body: bytes, level: int) -> List[int]:
+    numbers = [
+        int.from_bytes(body[at : at + COEFFICIENT_BYTES], "big", signed=True)
+        for at in range(0, len(body), COEFFICIENT_BYTES)
+    ]
+    if any(abs(number) > coefficient_limit(level) for number in numbers):
+        raise Refused(4)
+    return numbers
+
+
+def _content(file: bytes) -> Content:
+    reader = _Reader(file)
+    w, h = reader.body(TAG_SIDES, 2, 2)
+    if not (side_allowed(w) and side_allowed(h)):
+        raise Refused(1)
+    # 'Tag 2's length is 1 to 1,365.'
+    tree = list(reader.body(TAG_TREE, 1, quadtree.GREATEST_TREE))
+    levels = quadtree.level_map(tree, w, h)
+    if levels is None:
+        raise Refused(2)
+    surface = Surface(w, h, levels)
+    coefficients = [0] * surface.total
+    for level in LEVELS:
+        functions = surface.active_functions(level)
+        length = COEFFICIENT_BYTES * len(functions)
+        numbers = _level_coefficients(reader.body(TAG_LEVEL_0 + level, length, length), level)
+        for (i, j), number in zip(functions, numbers):
+            coefficients[surface.place(level, i, j)] = number
+    # 'bytes after the last field'.
+    if reader.at != len(file):
+        raise Refused(15)
+    return Content(w, h, tree, coefficients)
+
+
+# Document 01, Calls: a file judged as far as 15: its content, or the refusal number.
+def judge(file: Sequence[int]) -> Union[Content, int]:
+    try:
+        return _content(bytes(file))
+    except Refused as refused:
+        return refused.number
