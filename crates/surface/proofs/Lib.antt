@@ -1,1 +1,4 @@
 pub mod SplineWeight
+pub mod SplinePiece
+pub mod SplineCell
+pub mod SplineTwoScale
