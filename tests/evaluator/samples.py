@@ -6,7 +6,7 @@ from typing import List, NamedTuple, Sequence, Tuple
 
 import calls
 import tree as quadtree
-from surface import LEVELS, QUARTERS_PER_CELL, STEPS_PER_CELL, TREE_SIDE, Box, LevelMap, Surface, coefficient_limit
+from surface import LEVELS, QUARTERS_PER_CELL, STEPS_PER_CELL, TREE_SIDE, Box, LevelMap, Surface
 
 Point = Tuple[int, int]
 

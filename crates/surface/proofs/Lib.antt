@@ -1,4 +1,7 @@
 pub mod SplineWeight
+pub mod SplinePiece
+pub mod SplineCell
+pub mod SplineTwoScale
 pub mod Least
 pub mod Parents
 pub mod Carried

@@ -1,6 +1,6 @@
 -- The weights of the two-scale relation by parity of the child, and the sides of cells from level to level.
 use mathlib.Core.List.{[], _∷_}
-use mathlib.Core.Path.{_≡_}
+use mathlib.Core.Path.{_≡_, sym, _∙_}
 use Prim.Native.Nat.{ℕ, suc, _+_, _-_, _*_, _≤_, _<_}
 use native.Mathlib.Decide.{decLe}
 use native.Mathlib.Nat.{one-le-pow, pow-succ'}
@@ -28,6 +28,17 @@ weight-after a c h =
     let past : c + 3 ≡ 2 * a + suc (suc (suc (suc (suc (c - (2 * a + 2)))))) = omega arith in
     weight-at a c _ past
 
+-- the weight depends only on how far the child is from twice the parent
+pub weight-shift : (m a c a′ c′ : ℕ) → a′ ≡ m + a → c′ ≡ 2 * m + c → weight a′ c′ ≡ weight a c
+weight-shift m a c a′ c′ p q = go (decLe (2 * a) (c + 3))
+  where
+    go : Dec (2 * a ≤ c + 3) → weight a′ c′ ≡ weight a c
+    go (yes h) =
+        let k = c + 3 - 2 * a in
+        weight-at a′ c′ k (omega arith) ∙ sym (weight-at a c k (omega arith))
+    go (no h) = weight-before a′ c′ (omega arith) ∙ sym (weight-before a c (omega arith))
+
+-- the parents of an even child
 pub weight-even-0 : (m : ℕ) → weight m (2 * m) ≡ 4
 weight-even-0 m = weight-at m (2 * m) 3 (omega arith)
 
@@ -40,6 +51,7 @@ weight-even-low m a h = weight-after a (2 * m) (omega arith)
 pub weight-even-high : (m a : ℕ) → m + 2 ≤ a → weight a (2 * m) ≡ 0
 weight-even-high m a h = weight-before a (2 * m) (omega arith)
 
+-- the parents of an odd child
 pub weight-odd-0 : (m : ℕ) → weight m (2 * m + 1) ≡ 1
 weight-odd-0 m = weight-at m (2 * m + 1) 4 (omega arith)
 
