@@ -52,7 +52,7 @@ def _sides_refused(w: int, h: int) -> bool:
     return not (side_allowed(w) and side_allowed(h))
 
 
-@lru_cache(maxsize=64)
+@lru_cache(maxsize=32)
 def _surface(w: int, h: int, tree: Tuple[int, ...]) -> Optional[Surface]:
     levels = quadtree.level_map(tree, w, h)
     return None if levels is None else Surface(w, h, levels)

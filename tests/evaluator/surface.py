@@ -288,7 +288,7 @@ class Surface:
 
     # Demand 2: 'the fraction that the active coefficients times their truncated functions add up to there'.
     def read_watts(self, watts: Callable[[int, int, int], Fraction], u: int, v: int) -> Fraction:
-        if len(self._at_point) >= 4_000:
+        if len(self._at_point) >= 256:
             self._at_point.clear()
         reading = Fraction(0)
         for level in LEVELS:

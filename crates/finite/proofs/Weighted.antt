@@ -7,7 +7,8 @@ use lib.IntN.{ℤ, pos, _+ℤ_, _*ℤ_, zero-*ℤ, *ℤ-comm}
 use lib.Signed.{_≤ℤ_, ≤ℤ-refl}
 use Rattle.finite.specs.Range.{sum, sum2}
 use Rattle.finite.proofs.Order.{scale-mono}
-use Rattle.finite.proofs.Sum.{sum2-cong, sum2-mono, sum2-scale}
+use Rattle.finite.proofs.Int.{*ℤ-assoc}
+use Rattle.finite.proofs.Sum.{sum-cong, sum-scale, sum2-cong, sum2-mono, sum2-scale}
 
 -- two terms with one weight are equal where the values are, if the weight is not 0
 pub term-cong : (w : ℕ) (x y : ℤ) → (0 < w → x ≡ y) → pos w *ℤ x ≡ pos w *ℤ y
@@ -50,3 +51,24 @@ pub weighted-cong : (n m : ℕ) (w : ℕ → ℕ → ℕ) (f g : ℕ → ℕ →
 weighted-cong n m w f g h =
     sum2-cong n m (λ a b. pos (w a b) *ℤ f a b) (λ a b. pos (w a b) *ℤ g a b)
     (λ a b la lb. term-cong (w a b) (f a b) (g a b) (h a b la lb))
+
+-- a weight that is a product leaves the sum along its direction
+split-weight : (n : ℕ) (x : ℕ) (w : ℕ → ℕ) (g : ℕ → ℤ)
+    → sum n (λ b. pos (x * w b) *ℤ g b) ≡ pos x *ℤ sum n (λ b. pos (w b) *ℤ g b)
+split-weight n x w g =
+    sum-cong n (λ b. pos (x * w b) *ℤ g b) (λ b. pos x *ℤ (pos (w b) *ℤ g b)) (λ b l. *ℤ-assoc (pos x) (pos (w b)) (g b))
+    ∙ sum-scale n (pos x) (λ b. pos (w b) *ℤ g b)
+
+-- where the weighted sum along each direction has fewer terms, so has the sum over both
+pub both-directions : (n m k l : ℕ) (w w′ s s′ g g′ : ℕ → ℕ)
+    → ((f : ℕ → ℤ) → sum n (λ a. pos (w a) *ℤ f a) ≡ sum k (λ i. pos (s i) *ℤ f (g i)))
+    → ((f : ℕ → ℤ) → sum m (λ b. pos (w′ b) *ℤ f b) ≡ sum l (λ j. pos (s′ j) *ℤ f (g′ j)))
+    → (f : ℕ → ℕ → ℤ)
+    → sum2 n m (λ a b. pos (w a * w′ b) *ℤ f a b) ≡ sum2 k l (λ i j. pos (s i * s′ j) *ℤ f (g i) (g′ j))
+both-directions n m k l w w′ s s′ g g′ along along′ f =
+    sum-cong n (λ a. sum m (λ b. pos (w a * w′ b) *ℤ f a b)) (λ a. pos (w a) *ℤ sum l (λ j. pos (s′ j) *ℤ f a (g′ j)))
+    (λ a la. split-weight m (w a) w′ (λ b. f a b) ∙ ap (λ t. pos (w a) *ℤ t) (along′ (λ b. f a b)))
+    ∙ along (λ a. sum l (λ j. pos (s′ j) *ℤ f a (g′ j)))
+    ∙ sum-cong k (λ i. pos (s i) *ℤ sum l (λ j. pos (s′ j) *ℤ f (g i) (g′ j)))
+    (λ i. sum l (λ j. pos (s i * s′ j) *ℤ f (g i) (g′ j)))
+    (λ i li. sym (split-weight l (s i) s′ (λ j. f (g i) (g′ j))))

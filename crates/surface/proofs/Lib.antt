@@ -7,3 +7,4 @@ pub mod Parents
 pub mod Carried
 pub mod Linear
 pub mod Refine
+pub mod PatchReading

@@ -7,8 +7,8 @@ use native.Mathlib.Nat.{add-zero, mul-comm, mul-assoc, pow-succ', mul-left-comm}
 use native.Mathlib.Omega.{arith}
 use lib.IntN.{ℤ, pos, _+ℤ_, _*ℤ_, zero-*ℤ, +ℤ-idr, +ℤ-idl, +ℤ-assoc}
 use Rattle.finite.specs.Range.{sum, sum2}
-use Rattle.finite.proofs.Int.{*ℤ-assoc, *ℤ-left-comm, one-*ℤ}
-use Rattle.finite.proofs.Sum.{sum-window, sum-cong, sum-scale, sum2-cong, sum2-product}
+use Rattle.finite.proofs.Sum.{sum-window, sum-cong, sum2-product}
+use Rattle.finite.proofs.Weighted.{both-directions}
 use Rattle.surface.specs.Sheet.{cells, functions}
 use Rattle.surface.specs.Truncation.{weight, weight2}
 use Rattle.surface.specs.Patch.{stencil}
@@ -78,17 +78,5 @@ module _ (W H L c d : ℕ) (hc : c < functions W (suc L)) (hd : d < functions H 
       → sum2 (functions W L) (functions H L) (λ a b. weight2 a b c d *ℤ f a b)
       ≡ sum2 3 3 (λ i j. pos (stencil c i * stencil d j) *ℤ f (c / 2 + i) (d / 2 + j))
   parents2 f =
-      sum-cong (functions W L) (λ a. sum (functions H L) (λ b. weight2 a b c d *ℤ f a b))
-      (λ a. pos (weight a c) *ℤ sum 3 (λ j. pos (stencil d j) *ℤ f a (d / 2 + j)))
-      (λ a l. split a (λ b. weight b d) (functions H L) (λ b. f a b) (weight a c)
-      ∙ ap (λ t. pos (weight a c) *ℤ t) (parents H L d (λ b. f a b) hd))
-      ∙ parents W L c (λ a. sum 3 (λ j. pos (stencil d j) *ℤ f a (d / 2 + j))) hc
-      ∙ sum-cong 3 (λ i. pos (stencil c i) *ℤ sum 3 (λ j. pos (stencil d j) *ℤ f (c / 2 + i) (d / 2 + j)))
-      (λ i. sum 3 (λ j. pos (stencil c i * stencil d j) *ℤ f (c / 2 + i) (d / 2 + j)))
-      (λ i l. sym (split i (λ j. stencil d j) 3 (λ j. f (c / 2 + i) (d / 2 + j)) (stencil c i)))
-    where
-      split : (a : ℕ) (w : ℕ → ℕ) (n : ℕ) (g : ℕ → ℤ) (x : ℕ)
-          → sum n (λ b. pos (x * w b) *ℤ g b) ≡ pos x *ℤ sum n (λ b. pos (w b) *ℤ g b)
-      split a w n g x =
-          sum-cong n (λ b. pos (x * w b) *ℤ g b) (λ b. pos x *ℤ (pos (w b) *ℤ g b)) (λ b l. *ℤ-assoc (pos x) (pos (w b)) (g b))
-          ∙ sum-scale n (pos x) (λ b. pos (w b) *ℤ g b)
+      both-directions (functions W L) (functions H L) 3 3 (λ a. weight a c) (λ b. weight b d) (λ i. stencil c i)
+      (λ j. stencil d j) (λ i. c / 2 + i) (λ j. d / 2 + j) (λ g. parents W L c g hc) (λ g. parents H L d g hd) f

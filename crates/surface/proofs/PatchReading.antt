@@ -1,0 +1,114 @@
+-- The four by four patch subdivided from level to level gives the exact reading (EVAL_THB of source document 003).
+use mathlib.Core.Path.{_≡_, refl, sym, ap, _∙_, subst}
+use mathlib.Core.Logic.{_⊎_, inl, inr}
+use mathlib.Core.Bool.{Bool, true, false, cond}
+use Prim.Native.Nat.{ℕ, zero, suc, _+_, _-_, _*_, _/_, _%_, _≤_, _<_}
+use native.Mathlib.Nat.{add-assoc}
+use native.Mathlib.Decide.{ℕ-discrete}
+use native.Mathlib.Omega.{arith}
+use lib.Dec.{leb, eqb, lit<, lit≤}
+use lib.IntN.{ℤ, pos, _*ℤ_, zero-*ℤ}
+use Rattle.finite.specs.Range.{sum, sum2}
+use Rattle.finite.proofs.Sum.{sum-window, sum-cong, sum2-cong}
+use Rattle.finite.proofs.Weighted.{weighted-cong, both-directions}
+use Rattle.surface.specs.Sheet.{functions, cells, steps}
+use Rattle.surface.specs.Support.{leastUnder, inRegion}
+use Rattle.surface.specs.Spline.{cellOf, piece, splineAt}
+use Rattle.surface.specs.Truncation.{weight2, reading}
+use Rattle.surface.specs.Carry.{carried}
+use Rattle.surface.specs.Patch.{stencil, subdivided, patch, patchReading}
+use Rattle.surface.proofs.SplineCell.{cell-inside, cell-step, spline-in, spline-low, spline-far}
+use Rattle.surface.proofs.Parents.{parents2}
+use Rattle.surface.proofs.Carried.{factors, carried-reading}
+
+-- a parent with a weight stands in the coarser patch: c is the half plus the entry's number
+stencil-inside : (c i : ℕ) → c ≤ 4 → i < 3 → 0 < stencil c i → c / 2 + i < 4
+stencil-inside c i hc hi w = go (ℕ-discrete (c % 2) 0) (ℕ-discrete i 2)
+  where
+    none : c % 2 ≡ 0 → i ≡ 2 → 0 < 0
+    none e f = rw (e, f) at w
+
+    go : Dec (c % 2 ≡ 0) → Dec (i ≡ 2) → c / 2 + i < 4
+    go (yes e) (yes f) = absurd (omega (arith, none e f))
+    go (yes e) (no f) = omega arith
+    go (no e) f = omega arith
+
+-- a child's parents by its place in the finer patch: c′ is the finer cell, c the coarser
+shifted : (c c′ h k : ℕ) → h ≤ 1 → c′ ≡ 2 * c + h → ((c′ + k) % 2 ≡ (c′ % 2 + k) % 2) × ((c′ + k) / 2 ≡ c + (c′ % 2 + k) / 2)
+shifted c c′ h k l e = (omega arith, omega arith)
+
+-- of a level's splines along a direction only the four of the point's cell are not 0
+pub spline-window : (n L w : ℕ) → 0 < n → w ≤ 128 * n → L ≤ 3 → (f : ℕ → ℤ)
+    → sum (functions n L) (λ a. pos (splineAt n L a w) *ℤ f a)
+    ≡ sum 4 (λ k. pos (piece k (w - cellOf n L w * steps L) (steps L)) *ℤ f (cellOf n L w + k))
+spline-window n L w p hw hL f =
+    let i = cell-inside n L w p hw hL in
+    sum-window (functions n L) (cellOf n L w) 4 (λ a. pos (splineAt n L a w) *ℤ f a) (omega arith)
+    (λ a l. ap (λ t. pos t *ℤ f a) (spline-low n L a w l) ∙ zero-*ℤ (f a))
+    (λ a l. ap (λ t. pos t *ℤ f a) (spline-far n L a w l) ∙ zero-*ℤ (f a))
+    ∙ sum-cong 4 (λ k. pos (splineAt n L (cellOf n L w + k) w) *ℤ f (cellOf n L w + k))
+    (λ k. pos (piece k (w - cellOf n L w * steps L) (steps L)) *ℤ f (cellOf n L w + k))
+    (λ k l. ap (λ t. pos t *ℤ f (cellOf n L w + k)) (spline-in n L k w))
+
+module _ (W H : ℕ) (lev : ℕ → ℕ → ℕ) (coef : ℕ → ℕ → ℕ → ℤ) (u v : ℕ) (pW : 0 < W) (pH : 0 < H)
+    (hu : u ≤ 128 * W) (hv : v ≤ 128 * H) where
+  abbrev cu : ℕ → ℕ
+  cu L = cellOf W L u
+
+  abbrev cv : ℕ → ℕ
+  cv L = cellOf H L v
+
+  abbrev Same : ℕ → Type 0
+  Same L =
+      (k l : ℕ) → k < 4 → l < 4 → patch W H lev coef u v L k l ≡ carried W H lev coef L (cu L + k) (cv L + l)
+
+  -- one subdivision step is the two-scale sum of the parents
+  subdivided-parents : (L : ℕ) → L < 3 → Same L → (k l : ℕ) → k < 4 → l < 4
+      → subdivided (cu (suc L) % 2) (cv (suc L) % 2) (patch W H lev coef u v L) k l
+      ≡ sum2 (functions W L) (functions H L)
+      (λ c d. weight2 c d (cu (suc L) + k) (cv (suc L) + l) *ℤ carried W H lev coef L c d)
+  subdivided-parents L hL ih k l hk hl =
+      let su = cell-step W L u pW hL hu in
+      let sv = cell-step H L v pH hL hv in
+      let eu = shifted (cu L) (cu (suc L)) (su .0) k (su .1) (su .2) in
+      let ev = shifted (cv L) (cv (suc L)) (sv .0) l (sv .1) (sv .2) in
+      let g = cu (suc L) % 2 + k in
+      let h = cv (suc L) % 2 + l in
+      let iu = cell-inside W (suc L) u pW hu hL in
+      let iv = cell-inside H (suc L) v pH hv hL in
+      weighted-cong 3 3 (λ i j. stencil g i * stencil h j)
+      (λ i j. patch W H lev coef u v L (g / 2 + i) (h / 2 + j))
+      (λ i j. carried W H lev coef L (cu L + (g / 2 + i)) (cv L + (h / 2 + j)))
+      (λ i j hi hj p. let f = factors (stencil g i) (stencil h j) p in
+      ih (g / 2 + i) (h / 2 + j)
+      (stencil-inside g i (omega arith) hi (f .0)) (stencil-inside h j (omega arith) hj (f .1)))
+      ∙ sum2-cong 3 3
+      (λ i j. pos (stencil g i * stencil h j) *ℤ carried W H lev coef L (cu L + (g / 2 + i)) (cv L + (h / 2 + j)))
+      (λ i j. pos (stencil (cu (suc L) + k) i * stencil (cv (suc L) + l) j)
+      *ℤ carried W H lev coef L ((cu (suc L) + k) / 2 + i) ((cv (suc L) + l) / 2 + j))
+      (λ i j hi hj. rw (eu .0, ev .0, eu .1, ev .1, add-assoc (cu L) (g / 2) i, add-assoc (cv L) (h / 2) j))
+      ∙ sym (parents2 W H L (cu (suc L) + k) (cv (suc L) + l) (omega arith) (omega arith) (λ c d. carried W H lev coef L c d))
+
+  pub patch-carried : (L : ℕ) → L ≤ 3 → Same L
+  unfolding patch carried
+  patch-carried zero hL k l hk hl = refl
+  patch-carried (suc L) hL k l hk hl =
+      ap (λ t. cond (inRegion W H lev (suc L) (cu (suc L) + k) (cv (suc L) + l)) (coef (suc L) (cu (suc L) + k) (cv (suc L) + l)) t)
+      (subdivided-parents L hL (patch-carried L (omega arith)) k l hk hl)
+
+  -- the exact reading is the patch's evaluation
+  pub patch-reading : reading W H lev coef u v ≡ patchReading W H lev coef u v
+  unfolding patchReading
+  patch-reading =
+      let r = u - cu 3 * steps 3 in
+      let s = v - cv 3 * steps 3 in
+      carried-reading W H lev coef u v
+      ∙ both-directions (functions W 3) (functions H 3) 4 4 (λ a. splineAt W 3 a u) (λ b. splineAt H 3 b v)
+      (λ k. piece k r (steps 3)) (λ l. piece l s (steps 3)) (λ k. cu 3 + k) (λ l. cv 3 + l)
+      (λ g. spline-window W 3 u pW hu (lit≤ tt) g) (λ g. spline-window H 3 v pH hv (lit≤ tt) g)
+      (λ a b. carried W H lev coef 3 a b)
+      ∙ sum2-cong 4 4
+      (λ k l. pos (piece k r (steps 3) * piece l s (steps 3)) *ℤ carried W H lev coef 3 (cu 3 + k) (cv 3 + l))
+      (λ k l. pos (piece k r (steps 3) * piece l s (steps 3)) *ℤ patch W H lev coef u v 3 k l)
+      (λ k l hk hl. ap (λ t. pos (piece k r (steps 3) * piece l s (steps 3)) *ℤ t)
+      (sym (patch-carried 3 (lit≤ tt) k l hk hl)))
