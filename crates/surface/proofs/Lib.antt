@@ -8,3 +8,4 @@ pub mod Carried
 pub mod Linear
 pub mod Refine
 pub mod PatchReading
+pub mod Bounds

@@ -5,3 +5,6 @@ pub mod Spline
 pub mod Truncation
 pub mod Carry
 pub mod Patch
+pub mod Table
+pub mod Calls
+pub mod FloatReading
