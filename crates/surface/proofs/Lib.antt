@@ -1,0 +1,3 @@
+pub mod TreeForm
+pub mod TreeBytes
+pub mod TreeLevels
