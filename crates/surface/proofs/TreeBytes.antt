@@ -1,5 +1,5 @@
 -- Region trees as bytes: writing and reading undo one another, and how long a tree is.
-use mathlib.Core.Bool.{Bool, true, false, false≢true}
+use mathlib.Core.Bool.{Bool, true, false}
 use mathlib.Core.List.{List, [], _∷_, _++_, append-assoc}
 use mathlib.Core.Path.{_≡_, refl, sym, ap, _∙_}
 use Prim.Native.Nat.{ℕ, zero, suc, _+_, _*_, _^_, _≤_}
@@ -7,12 +7,13 @@ use native.Mathlib.Nat.{one-le-pow}
 use native.Mathlib.Omega.{arith}
 use lib.Dec.{leb, eqb}
 use lib.ListN.{length, length-append}
-use borrow.Author.Tests.{leb-true, eqb-true, le-leb}
+use borrow.Author.Tests.{eqb-true, le-leb}
 use Rattle.surface.specs.Quadtree.{Quadtree, leaf, split, bytes, Parsed, none, found, andThen}
-use Rattle.surface.specs.Quadtree.{parseNode, parse, equalLeaves, wellFormed, quadrant}
-use Rattle.surface.proofs.TreeForm.{LeafForm, form-induction}
+use Rattle.surface.specs.Quadtree.{parseNode, parse, wellFormed}
+use Rattle.surface.proofs.TreeForm.{AtLeaves, AtSplits, form-induction}
 
-node-leaf : (child : List ℕ → Parsed) (l : ℕ) (s : List ℕ) → leb l 3 ≡ true → parseNode child (l ∷ s) ≡ found (leaf l) s
+node-leaf : (child : List ℕ → Parsed) (l : ℕ) (s : List ℕ) → leb l 3 ≡ true
+    → parseNode child (l ∷ s) ≡ found (leaf l) s
 node-leaf child l s e = rw (e, parseNode)
 
 leaf-read : (k l : ℕ) (s : List ℕ) → l ≤ 3 → parse k (l ∷ s) ≡ found (leaf l) s
@@ -29,17 +30,16 @@ split-bytes sw se nw ne rest = simp append-assoc
 pub parse-bytes : (W H k x y : ℕ) (t : Quadtree) (rest : List ℕ) → wellFormed W H k x y t ≡ true
     → parse k (bytes t ++ rest) ≡ found t rest
 unfolding parse bytes
-parse-bytes W H k x y t rest e = form-induction W H (λ k x y. Read k) at-leaf at-split k x y t e rest
+parse-bytes W H k x y t rest e = form-induction W H Read at-leaf at-split k x y t e rest
   where
-    Read : ℕ → Quadtree → Type 0
-    Read k t = (rest : List ℕ) → parse k (bytes t ++ rest) ≡ found t rest
+    Read : (k x y : ℕ) → Quadtree → Type 0
+    Read k x y t = (rest : List ℕ) → parse k (bytes t ++ rest) ≡ found t rest
 
-    at-leaf : (k x y l : ℕ) → LeafForm W H k x y l → Read k (leaf l)
+    at-leaf : AtLeaves W H Read
     at-leaf k x y l f rest = leaf-read k l rest (f .level)
 
-    at-split : (k x y : ℕ) (sw se nw ne : Quadtree) → equalLeaves sw se nw ne ≡ false
-        → ((a b : Bool) → Read k (quadrant a b sw se nw ne)) → Read (suc k) (split sw se nw ne)
-    at-split k x y sw se nw ne n part rest =
+    at-split : AtSplits W H Read
+    at-split k x y sw se nw ne unequal part rest =
         ap (parse (suc k)) (split-bytes sw se nw ne rest)
         ∙ rw (part true true _, part false true _, part true false _, part false false rest)
 
@@ -58,7 +58,8 @@ module _ (child : List ℕ → Parsed) (reads : Reads child) (t : Quadtree) (res
       go none e n = cc
       go (found u s′) e m = ap c (reads s u s′ e) ∙ more u s′ m
 
-  node-read : (b : ℕ) (s : List ℕ) → parseNode child (b ∷ s) ≡ found t rest → _≡_ {A = List ℕ} (b ∷ s) (bytes t ++ rest)
+  node-read : (b : ℕ) (s : List ℕ) → parseNode child (b ∷ s) ≡ found t rest
+      → _≡_ {A = List ℕ} (b ∷ s) (bytes t ++ rest)
   unfolding bytes
   node-read b s e = go (leb b 3) (eqb b 4) refl refl
     where
@@ -78,25 +79,26 @@ node-reads : (child : List ℕ → Parsed) → Reads child → Reads (parseNode 
 node-reads child reads [] t rest e = cc
 node-reads child reads (b ∷ s) t rest e = node-read child reads t rest b s e
 
+-- What is read is the tree's bytes, and what is left stands behind them.
 pub bytes-parse : (k : ℕ) (s : List ℕ) (t : Quadtree) (rest : List ℕ) → parse k s ≡ found t rest → s ≡ bytes t ++ rest
 unfolding parse
 bytes-parse zero = node-reads (λ _. none) (λ s t rest e. cc)
 bytes-parse (suc k) = node-reads (parse k) (bytes-parse k)
 
+-- A tree of k halvings has at most 1 + 4 + ... + 4^k nodes, of a byte each.
 pub bytes-length : (W H k x y : ℕ) (t : Quadtree) → wellFormed W H k x y t ≡ true
     → (1 ≤ length (bytes t)) × (3 * length (bytes t) + 1 ≤ 4 ^ suc k)
 unfolding bytes
-bytes-length W H k x y t e = form-induction W H (λ k x y. Sized k) at-leaf at-split k x y t e
+bytes-length W H = form-induction W H Sized at-leaf at-split
   where
-    Sized : ℕ → Quadtree → Type 0
-    Sized k t = (1 ≤ length (bytes t)) × (3 * length (bytes t) + 1 ≤ 4 ^ suc k)
+    Sized : (k x y : ℕ) → Quadtree → Type 0
+    Sized k x y t = (1 ≤ length (bytes t)) × (3 * length (bytes t) + 1 ≤ 4 ^ suc k)
 
-    at-leaf : (k x y l : ℕ) → LeafForm W H k x y l → Sized k (leaf l)
+    at-leaf : AtLeaves W H Sized
     at-leaf k x y l f = omega (arith, one-le-pow k 4 (omega arith))
 
-    at-split : (k x y : ℕ) (sw se nw ne : Quadtree) → equalLeaves sw se nw ne ≡ false
-        → ((a b : Bool) → Sized k (quadrant a b sw se nw ne)) → Sized (suc k) (split sw se nw ne)
-    at-split k x y sw se nw ne n part =
+    at-split : AtSplits W H Sized
+    at-split k x y sw se nw ne unequal part =
         simp length-append (omega (arith, part true true, part false true, part true false, part false false))
 
 -- The root's square has a side of 32 quarters.

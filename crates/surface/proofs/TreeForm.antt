@@ -1,10 +1,10 @@
 -- Region trees taken apart and put together: the two halves of a side, the form of a leaf and of a split.
-use mathlib.Core.Bool.{Bool, true, false, not, _&&_, _||_, cond, false≢true, and-eq-true-iff, and-false}
+use mathlib.Core.Bool.{Bool, true, false, _&&_, _||_, cond, false≢true, and-eq-true-iff, and-false}
 use mathlib.Core.Path.{_≡_, refl, sym, ap, _∙_}
-use Prim.Native.Nat.{ℕ, zero, suc, _+_, _-_, _*_, _^_, _≤_, _<_}
+use Prim.Native.Nat.{ℕ, zero, suc, _+_, _-_, _^_, _≤_, _<_}
 use native.Mathlib.Omega.{arith}
 use lib.Dec.{leb, ltb, eqb}
-use borrow.Author.Tests.{ltb-true, ltb-false, leb-true, eqb-true, eqb-false, not-true, lt-ltb, le-ltb, le-leb, lt-leb, eq-eqb}
+use borrow.Author.Tests.{ltb-true, ltb-false, leb-true, eqb-true, eqb-false, not-true, lt-ltb, le-ltb, le-leb, lt-leb}
 use Rattle.surface.specs.Sheet.{quarters}
 use Rattle.surface.specs.Quadtree.{Quadtree, leaf, split, equalLeaves, wellFormed, quadrant, within}
 
@@ -57,6 +57,8 @@ and-left a b e = and-eq-true-iff a b .0 e .0
 and-right : (a b : Bool) → (a && b) ≡ true → b ≡ true
 and-right a b e = and-eq-true-iff a b .0 e .1
 
+ruleset ands = (and-left, and-right)
+
 or-left : (t c : Bool) → (t || c) ≡ true → c ≡ false → t ≡ true
 or-left true c e n = refl
 or-left false c e n = absurd (false≢true (sym n ∙ e))
@@ -100,13 +102,13 @@ pub split-form : (W H k x y : ℕ) (sw se nw ne : Quadtree) → wellFormed W H (
     → SplitForm W H k x y sw se nw ne
 unfolding wellFormed
 split-form W H k x y sw se nw ne e =
-    record { child = child; unequal = not-true (equalLeaves sw se nw ne) (search (and-left, and-right)) }
+    record { child = child; unequal = not-true (equalLeaves sw se nw ne) (search ands) }
   where
     child : (a b : Bool) → wellFormed W H k (half a (2 ^ k) x) (half b (2 ^ k) y) (quadrant a b sw se nw ne) ≡ true
-    child true true = search (and-left, and-right)
-    child false true = search (and-left, and-right)
-    child true false = search (and-left, and-right)
-    child false false = search (and-left, and-right)
+    child true true = search ands
+    child false true = search ands
+    child true false = search ands
+    child false false = search ands
 
 pub form-split : (W H k x y : ℕ) (sw se nw ne : Quadtree) → SplitForm W H k x y sw se nw ne
     → wellFormed W H (suc k) x y (split sw se nw ne) ≡ true
@@ -114,21 +116,25 @@ unfolding wellFormed
 form-split W H k x y sw se nw ne f =
     rw (f .child true true, f .child false true, f .child true false, f .child false false, f .unequal)
 
--- Induction over well-formed trees: a leaf, and a split from its four children.
-module _ (W H : ℕ) (P : (k x y : ℕ) → Quadtree → Type 0)
-    (at-leaf : (k x y l : ℕ) → LeafForm W H k x y l → P k x y (leaf l))
-    (at-split : (k x y : ℕ) (sw se nw ne : Quadtree) → equalLeaves sw se nw ne ≡ false
-    → ((a b : Bool) → P k (half a (2 ^ k) x) (half b (2 ^ k) y) (quadrant a b sw se nw ne))
-    → P (suc k) x y (split sw se nw ne)) where
-  pub form-induction : (k x y : ℕ) (t : Quadtree) → wellFormed W H k x y t ≡ true → P k x y t
+-- Induction over well-formed trees, for a property of the tree of the square of side 2^k at (x, y).
+module _ (W H : ℕ) (P : (k x y : ℕ) → Quadtree → Type 0) where
+  abbrev pub AtLeaves : Type 0
+  AtLeaves = (k x y l : ℕ) → LeafForm W H k x y l → P k x y (leaf l)
+
+  abbrev pub AtSplits : Type 0
+  AtSplits = (k x y : ℕ) (sw se nw ne : Quadtree) → equalLeaves sw se nw ne ≡ false
+      → ((a b : Bool) → P k (half a (2 ^ k) x) (half b (2 ^ k) y) (quadrant a b sw se nw ne))
+      → P (suc k) x y (split sw se nw ne)
+
+  pub form-induction : AtLeaves → AtSplits → (k x y : ℕ) (t : Quadtree) → wellFormed W H k x y t ≡ true → P k x y t
   unfolding wellFormed
-  form-induction zero x y (leaf l) e = at-leaf zero x y l (leaf-form W H zero x y l e)
-  form-induction zero x y (split sw se nw ne) e = absurd (false≢true e)
-  form-induction (suc k) x y (leaf l) e = at-leaf (suc k) x y l (leaf-form W H (suc k) x y l e)
-  form-induction (suc k) x y (split sw se nw ne) e =
+  form-induction at-leaf at-split zero x y (leaf l) e = at-leaf zero x y l (leaf-form W H zero x y l e)
+  form-induction at-leaf at-split zero x y (split sw se nw ne) e = absurd (false≢true e)
+  form-induction at-leaf at-split (suc k) x y (leaf l) e = at-leaf (suc k) x y l (leaf-form W H (suc k) x y l e)
+  form-induction at-leaf at-split (suc k) x y (split sw se nw ne) e =
       let f = split-form W H k x y sw se nw ne e in
-      at-split k x y sw se nw ne (f .unequal)
-      (λ a b. form-induction k (half a (2 ^ k) x) (half b (2 ^ k) y) (quadrant a b sw se nw ne) (f .child a b))
+      at-split k x y sw se nw ne (f .unequal) λ a b.
+      form-induction at-leaf at-split k (half a (2 ^ k) x) (half b (2 ^ k) y) (quadrant a b sw se nw ne) (f .child a b)
 
 -- Four equal leaves: their level.
 pub record Equal (sw se nw ne : Quadtree) : Type 0 where
@@ -140,9 +146,9 @@ equal-leaves (leaf a) (leaf b) (leaf c) (leaf d) e = record { level = a; leaves 
   where
     leaves : (s t : Bool) → quadrant s t (leaf a) (leaf b) (leaf c) (leaf d) ≡ leaf a
     leaves true true = refl
-    leaves false true = ap leaf (sym (eqb-true a b (search (and-left, and-right))))
-    leaves true false = ap leaf (sym (eqb-true a c (search (and-left, and-right))))
-    leaves false false = ap leaf (sym (eqb-true a d (search (and-left, and-right))))
+    leaves false true = ap leaf (sym (eqb-true a b (search ands)))
+    leaves true false = ap leaf (sym (eqb-true a c (search ands)))
+    leaves false false = ap leaf (sym (eqb-true a d (search ands)))
 equal-leaves (leaf a) (leaf b) (leaf c) (split d e f g) h = absurd (false≢true h)
 equal-leaves (leaf a) (leaf b) (split c d e f) g h = absurd (false≢true h)
 equal-leaves (leaf a) (split b c d e) f g h = absurd (false≢true h)
