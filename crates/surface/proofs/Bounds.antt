@@ -40,14 +40,13 @@ spline-total n w p h =
     ∙ rw (c .value 0, c .value 1, c .value 2, c .value 3)
     (ap pos (let s : 16 ≡ r + q = c .side in
     let t : 0 + piece 0 r (r + q) + piece 1 r (r + q) + piece 2 r (r + q) + piece 3 r (r + q) ≡ 6 * (r + q) ^ 3 =
-        omega (arith, piece-sum r q) in
+    omega (arith, piece-sum r q) in
     t ∙ ap (λ x. 6 * x ^ 3) (sym s)))
 
 module _ (W H : ℕ) (lev : ℕ → ℕ → ℕ) (coef : ℕ → ℕ → ℕ → ℤ) (lo hi : ℤ) (P : ℕ → ℕ → ℕ → Type 0)
     (closed : (L a b c d : ℕ) → L < 3 → 0 < weight a c → 0 < weight b d → P (suc L) c d → P L a b)
     (given : (n L a b : ℕ) → n + L ≡ 3 → a < functions W L → b < functions H L → leastUnder W H lev L a b ≡ L → P L a b
-        → Between lo (pos (64 ^ n) *ℤ coef L a b) hi) where
-
+    → Between lo (pos (64 ^ n) *ℤ coef L a b) hi) where
   -- the parents' bounds are the child's: the weights add up to 64
   average : (n L a b : ℕ) → a < functions W (suc L) → b < functions H (suc L)
       → ((c d : ℕ) → c < functions W L → d < functions H L → 0 < weight c a * weight d b
@@ -55,9 +54,10 @@ module _ (W H : ℕ) (lev : ℕ → ℕ → ℕ) (coef : ℕ → ℕ → ℕ →
       → Between lo
       (pos (64 ^ n) *ℤ sum2 (functions W L) (functions H L) (λ c d. weight2 c d a b *ℤ carried W H lev coef L c d))
       hi
-  average n L a b ha hb h =
-      (scale-reflects 64 (lit< tt) (subst (λ t. (pos 64 *ℤ lo) ≤ℤ t) total low),
-      scale-reflects 64 (lit< tt) (subst (λ t. t ≤ℤ (pos 64 *ℤ hi)) total high))
+  average n L a b ha hb h = (
+    scale-reflects 64 (lit< tt) (subst (λ t. (pos 64 *ℤ lo) ≤ℤ t) total low),
+    scale-reflects 64 (lit< tt) (subst (λ t. t ≤ℤ (pos 64 *ℤ hi)) total high),
+  )
     where
       w : ℕ → ℕ → ℕ
       w c d = weight c a * weight d b
@@ -120,9 +120,10 @@ module _ (W H : ℕ) (lev : ℕ → ℕ → ℕ) (coef : ℕ → ℕ → ℕ →
       → ((a b : ℕ) → 0 < splineAt W 3 a u → 0 < splineAt H 3 b v → P 3 a b)
       → Between (pos 603979776 *ℤ lo) (reading W H lev coef u v) (pos 603979776 *ℤ hi)
   reading-between u v pW pH hu hv reach =
-      rw (carried-reading W H lev coef u v)
-      (subst (λ t. (t *ℤ lo) ≤ℤ S) total (weighted-low (functions W 3) (functions H 3) w x lo (λ a b la lb p. each a b la lb p .0)),
-      subst (λ t. S ≤ℤ (t *ℤ hi)) total (weighted-high (functions W 3) (functions H 3) w x hi (λ a b la lb p. each a b la lb p .1)))
+      rw (carried-reading W H lev coef u v) (
+        subst (λ t. (t *ℤ lo) ≤ℤ S) total (weighted-low (functions W 3) (functions H 3) w x lo (λ a b la lb p. each a b la lb p .0)),
+        subst (λ t. S ≤ℤ (t *ℤ hi)) total (weighted-high (functions W 3) (functions H 3) w x hi (λ a b la lb p. each a b la lb p .1)),
+      )
     where
       w : ℕ → ℕ → ℕ
       w a b = splineAt W 3 a u * splineAt H 3 b v

@@ -1,3 +1,6 @@
+pub mod TreeForm
+pub mod TreeBytes
+pub mod TreeLevels
 pub mod SplineWeight
 pub mod SplinePiece
 pub mod SplineCell

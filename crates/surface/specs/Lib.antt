@@ -8,3 +8,4 @@ pub mod Patch
 pub mod Table
 pub mod Calls
 pub mod FloatReading
+pub mod TableFile
