@@ -9,3 +9,4 @@ pub mod Table
 pub mod Calls
 pub mod FloatReading
 pub mod TableFile
+pub mod Demands

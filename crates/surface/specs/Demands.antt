@@ -1,0 +1,141 @@
+-- Document 00's demands 2 and 3, and document 01's "What each call is held to", as statements about the definitions.
+-- Each is proved under its name in proofs/Demands.antt.
+use mathlib.Core.Path.{_≡_}
+use mathlib.Core.Logic.{_↔_}
+use mathlib.Core.Bool.{Bool, true, _&&_, cond}
+use mathlib.Core.List.{List, [], _∷_}
+use Prim.Native.Nat.{ℕ, suc, _+_, _*_, _/_, _^_, _≤_, _<_, max}
+use lib.IntN.{ℤ, pos, natAbs, _+ℤ_, _*ℤ_}
+use lib.Signed.{_≤ℤ_}
+use lib.ListN.{getD, take}
+use Rattle.surface.specs.Sheet.{Box, goodSide, functions, quarters, onSheet}
+use Rattle.surface.specs.Support.{lowEnd, highEnd, active, holds, inBox}
+use Rattle.surface.specs.Truncation.{D}
+use Rattle.surface.specs.Table.{levels, slots, coefficients, Acceptable, tableReading}
+use Rattle.surface.specs.Calls.{Answer, refused, gives, Written, insertOutcome}
+
+-- ---- demand 2: "A function is active exactly when the selection rule of source document 003 makes it so."
+
+-- supp⁰ β ⊆ Ω^l of document 003. All edges of supports and regions are edges of level 3 cells, so a set of points is the
+-- set of its level 3 cells: each cell (x, y) of the cut support of function (a, b) of level L lies in a quarter square of
+-- level l or above.
+abbrev pub SupportIn : ℕ → ℕ → (ℕ → ℕ → ℕ) → ℕ → ℕ → ℕ → ℕ → Type 0
+SupportIn W H lev l L a b =
+    (x y : ℕ) → lowEnd L a ≤ x → x < highEnd W L a → lowEnd L b ≤ y → y < highEnd H L b → l ≤ lev (x / 2) (y / 2)
+
+-- "supp⁰ β ⊆ Ω^ℓ and supp⁰ β ⊄ Ω^(ℓ+1)"
+abbrev pub Selected : ℕ → ℕ → (ℕ → ℕ → ℕ) → ℕ → ℕ → ℕ → Type 0
+Selected W H lev L a b = SupportIn W H lev L L a b × ¬ SupportIn W H lev (suc L) L a b
+
+abbrev pub SelectionRule : Type 0
+SelectionRule =
+    (W H : ℕ) (t : List ℕ) (cs : List ℤ) → Acceptable W H t cs
+    → (L a b : ℕ) → L < 4 → a < functions W L → b < functions H L
+    → (active W H (levels t) L a b ≡ true) ↔ Selected W H (levels t) L a b
+
+-- ---- demand 2: "A box insertion raises lower levels inside the box to the one named, and changes no others."
+
+-- What an insertion was lent: "In demand 3's list every insertion has its own box, level and outputs, whatever those are".
+pub record Insertion : Type 0 where
+  pub box : Box
+  pub level : ℕ
+  pub treeOut : List ℕ
+  pub numbersOut : List ℤ
+
+-- The tree and the coefficients of a table; its sheet is W by H.
+pub record Contents : Type 0 where
+  pub tree : List ℕ
+  pub numbers : List ℤ
+
+-- "After an accepted insertion the table is the tree output up to the returned length, with the coefficients written;
+-- after a refused one it is the table that was read."
+abbrev pub left : Contents → Answer ℕ → List ℕ → List ℤ → Contents
+left c (refused n) tree numbers = c
+left c (gives n) tree numbers = record { tree = take n tree; numbers = numbers }
+
+abbrev pub outcomeOf : ℕ → ℕ → Contents → Insertion → Written ℕ
+outcomeOf W H c i = insertOutcome W H (c .tree) (c .numbers) (i .box) (i .level) (i .treeOut) (i .numbersOut)
+
+abbrev pub step : ℕ → ℕ → Contents → Insertion → Contents
+step W H c i = let o = outcomeOf W H c i in left c (o .result) (o .tree) (o .numbers)
+
+abbrev pub InsertionRaises : Type 0
+InsertionRaises =
+    (W H : ℕ) (c : Contents) (i : Insertion) (n : ℕ) → outcomeOf W H c i .result ≡ gives n
+    → (q r : ℕ) → q < quarters W → r < quarters H
+    → levels (step W H c i .tree) q r
+    ≡ cond (inBox (i .box) q r) (max (levels (c .tree) q r) (i .level)) (levels (c .tree) q r)
+
+-- ---- demand 3: linearity
+
+-- "share one sheet and one set of regions"
+abbrev pub SameRegions : ℕ → ℕ → List ℕ → List ℕ → Type 0
+SameRegions W H s t = (q r : ℕ) → q < quarters W → r < quarters H → levels s q r ≡ levels t q r
+
+-- "at every place the first's coefficient is a times the second's plus b times the third's, a and b whole. Then at every
+-- point the first's exact reading is a times the second's plus b times the third's."
+abbrev pub LinearReadings : Type 0
+LinearReadings =
+    (W H : ℕ) (t₁ t₂ t₃ : List ℕ) (c₁ c₂ c₃ : List ℤ) (a b : ℤ)
+    → Acceptable W H t₁ c₁ → Acceptable W H t₂ c₂ → Acceptable W H t₃ c₃
+    → SameRegions W H t₁ t₂ → SameRegions W H t₁ t₃
+    → ((p : ℕ) → p < slots W H → getD c₁ p (pos 0) ≡ a *ℤ getD c₂ p (pos 0) +ℤ b *ℤ getD c₃ p (pos 0))
+    → (u v : ℕ) → onSheet W H u v ≡ true
+    → tableReading W H t₁ c₁ u v ≡ a *ℤ tableReading W H t₂ c₂ u v +ℤ b *ℤ tableReading W H t₃ c₃ u v
+
+-- ---- demand 3: "each exact reading lies between the least and the greatest active coefficient, in watts, whose support
+-- holds the point"
+
+-- An active function whose support holds the point.
+pub record Around (W H : ℕ) (t : List ℕ) (u v : ℕ) : Type 0 where
+  pub L : ℕ
+  pub a : ℕ
+  pub b : ℕ
+  pub level : L < 4
+  pub alongU : a < functions W L
+  pub alongV : b < functions H L
+  pub isActive : active W H (levels t) L a b ≡ true
+  pub isAround : holds L a b u v ≡ true
+
+abbrev pub coefficientOf : (W H : ℕ) (t : List ℕ) (cs : List ℤ) (u v : ℕ) → Around W H t u v → ℤ
+coefficientOf W H t cs u v f = coefficients W H cs (f .L) (f .a) (f .b)
+
+-- "Exact readings are compared as numerators over D; a level L coefficient c counts as c/64^L watt": of the two functions
+-- one's coefficient is at most the reading n/D, and the other's at least.
+pub record Bracketed (W H : ℕ) (t : List ℕ) (cs : List ℤ) (u v : ℕ) (n : ℤ) : Type 0 where
+  pub low : Around W H t u v
+  pub high : Around W H t u v
+  pub atLeast : (pos D *ℤ coefficientOf W H t cs u v low) ≤ℤ (pos (64 ^ (low .L)) *ℤ n)
+  pub atMost : (pos (64 ^ (high .L)) *ℤ n) ≤ℤ (pos D *ℤ coefficientOf W H t cs u v high)
+
+abbrev pub BracketedReadings : Type 0
+BracketedReadings =
+    (W H : ℕ) (t : List ℕ) (cs : List ℤ) → Acceptable W H t cs
+    → (u v : ℕ) → onSheet W H u v ≡ true → Bracketed W H t cs u v (tableReading W H t cs u v)
+
+-- ---- demand 3: "take any list of box insertions, refused ones included, that starts from an acceptable table, each
+-- insertion reading the table that the one before it left"
+
+unfoldable pub afterAll : ℕ → ℕ → Contents → List Insertion → Contents
+afterAll W H c [] = c
+afterAll W H c (i ∷ is) = afterAll W H (step W H c i) is
+
+-- "After the list the exact reading at every point of the sheet equals that before the list, and so still lies between
+-- those two coefficients of the starting table."
+abbrev pub RefinementMovesNoReading : Type 0
+RefinementMovesNoReading =
+    (W H : ℕ) (c : Contents) (is : List Insertion) → Acceptable W H (c .tree) (c .numbers)
+    → Acceptable W H (afterAll W H c is .tree) (afterAll W H c is .numbers)
+    × ((u v : ℕ) → onSheet W H u v ≡ true
+    → (tableReading W H (afterAll W H c is .tree) (afterAll W H c is .numbers) u v
+    ≡ tableReading W H (c .tree) (c .numbers) u v)
+    × Bracketed W H (c .tree) (c .numbers) u v
+    (tableReading W H (afterAll W H c is .tree) (afterAll W H c is .numbers) u v))
+
+-- ---- "a signed i64 numerator over D"
+
+-- The numerator is at most 32,000×D in size, which is below 2^63.
+abbrev pub ReadingFits : Type 0
+ReadingFits =
+    (W H : ℕ) (t : List ℕ) (cs : List ℤ) → Acceptable W H t cs
+    → (u v : ℕ) → onSheet W H u v ≡ true → natAbs (tableReading W H t cs u v) ≤ 32000 * D
