@@ -1,4 +1,6 @@
 pub mod Int
 pub mod Order
 pub mod Sum
+pub mod Table
+pub mod Tests
 pub mod Weighted
