@@ -1,3 +1,4 @@
+pub mod Extremum
 pub mod Int
 pub mod Order
 pub mod Sum
