@@ -1,4 +1,7 @@
+pub mod Extremum
 pub mod Int
 pub mod Order
 pub mod Sum
+pub mod Table
+pub mod Tests
 pub mod Weighted

@@ -1,0 +1,82 @@
+-- Laws of tests, counts and totals over the numbers 0 to n - 1, and of tests over a grid.
+use mathlib.Core.Path.{_≡_, refl, sym, ap₂, _∙_}
+use mathlib.Core.Bool.{Bool, true, false, _&&_, cond, and-eq-true-iff}
+use Prim.Native.Nat.{ℕ, zero, suc, _+_, _*_, _≤_, _<_}
+use native.Mathlib.Nat.{le-step, lt-suc-self, not-suc-le-zero, zero-mul, suc-mul, le-refl}
+use native.Mathlib.Numerals.{add-one}
+use native.Mathlib.Decide.{decLt}
+use native.Mathlib.Omega.{arith}
+use Rattle.finite.specs.Range.{every, every2, count, total}
+
+-- ---- tests that hold everywhere
+
+pub every-true : (n : ℕ) (p : ℕ → Bool) → every n p ≡ true → (k : ℕ) → k < n → p k ≡ true
+unfolding every
+every-true zero p e k h = absurd (not-suc-le-zero h)
+every-true (suc n) p e k h =
+    let both : (every n p ≡ true) × (p n ≡ true) = and-eq-true-iff (every n p) (p n) .0 e in
+    go (every-true n p (both .0) k) (both .1) (decLt k n)
+  where
+    go : (k < n → p k ≡ true) → p n ≡ true → Dec (k < n) → p k ≡ true
+    go ih last (yes l) = ih l
+    go ih last (no l) = let q : k ≡ n = omega arith in rw q last
+
+pub every-intro : (n : ℕ) (p : ℕ → Bool) → ((k : ℕ) → k < n → p k ≡ true) → every n p ≡ true
+unfolding every
+every-intro zero p h = refl
+every-intro (suc n) p h = rw (every-intro n p (λ k l. h k (le-step l))) (h n (lt-suc-self n))
+
+pub every-cong : (n : ℕ) (p q : ℕ → Bool) → ((k : ℕ) → k < n → p k ≡ q k) → every n p ≡ every n q
+unfolding every
+every-cong zero p q h = refl
+every-cong (suc n) p q h = ap₂ _&&_ (every-cong n p q (λ k l. h k (le-step l))) (h n (lt-suc-self n))
+
+-- ---- the same over a grid
+
+module _ (n m : ℕ) where
+  pub every2-true : (p : ℕ → ℕ → Bool) → every2 n m p ≡ true → (a b : ℕ) → a < n → b < m → p a b ≡ true
+  every2-true p e a b ha hb = every-true m (p a) (every-true n (λ a. every m (λ b. p a b)) e a ha) b hb
+
+  pub every2-intro : (p : ℕ → ℕ → Bool) → ((a b : ℕ) → a < n → b < m → p a b ≡ true) → every2 n m p ≡ true
+  every2-intro p h = every-intro n (λ a. every m (λ b. p a b)) (λ a ha. every-intro m (p a) (λ b hb. h a b ha hb))
+
+  pub every2-cong : (p q : ℕ → ℕ → Bool) → ((a b : ℕ) → a < n → b < m → p a b ≡ q a b) → every2 n m p ≡ every2 n m q
+  every2-cong p q h =
+      every-cong n (λ a. every m (λ b. p a b)) (λ a. every m (λ b. q a b))
+      (λ a ha. every-cong m (p a) (q a) (λ b hb. h a b ha hb))
+
+-- ---- totals
+
+pub total-cong : (n : ℕ) (f g : ℕ → ℕ) → ((k : ℕ) → k < n → f k ≡ g k) → total n f ≡ total n g
+unfolding total
+total-cong zero f g h = refl
+total-cong (suc n) f g h = ap₂ _+_ (total-cong n f g (λ k l. h k (le-step l))) (h n (lt-suc-self n))
+
+pub total-const : (n c : ℕ) (f : ℕ → ℕ) → ((k : ℕ) → k < n → f k ≡ c) → total n f ≡ n * c
+unfolding total
+total-const zero c f h = sym (zero-mul c)
+total-const (suc n) c f h =
+    ap₂ _+_ (total-const n c f (λ k l. h k (le-step l))) (h n (lt-suc-self n)) ∙ sym (suc-mul n c)
+
+-- ---- counts
+
+pub count-cong : (n : ℕ) (p q : ℕ → Bool) → ((k : ℕ) → k < n → p k ≡ q k) → count n p ≡ count n q
+unfolding count
+count-cong zero p q h = refl
+count-cong (suc n) p q h =
+    ap₂ (λ c t. c + cond t 1 0) (count-cong n p q (λ k l. h k (le-step l))) (h n (lt-suc-self n))
+
+pub count-le : (n : ℕ) (p : ℕ → Bool) → count n p ≤ n
+unfolding count
+count-le zero p = le-refl 0
+count-le (suc n) p = omega (arith, count-le n p, at-most-one (p n))
+  where
+    at-most-one : (t : Bool) → cond t 1 0 ≤ 1
+    at-most-one true = omega arith
+    at-most-one false = omega arith
+
+pub count-all : (n : ℕ) (p : ℕ → Bool) → ((k : ℕ) → k < n → p k ≡ true) → count n p ≡ n
+unfolding count
+count-all zero p h = refl
+count-all (suc n) p h =
+    ap₂ (λ c t. c + cond t 1 0) (count-all n p (λ k l. h k (le-step l))) (h n (lt-suc-self n)) ∙ add-one n
