@@ -68,13 +68,13 @@ place W H L a b = start W H L + (b * functions W L + a)
 unfoldable pub coefficients : ℕ → ℕ → List ℤ → ℕ → ℕ → ℕ → ℤ
 coefficients W H cs L a b = getD cs (place W H L a b) (pos 0)
 
--- The slice that holds given coefficients.
-unfoldable pub sliceOf : ℕ → ℕ → (ℕ → ℕ → ℕ → ℤ) → List ℤ
-sliceOf W H f =
-    grid (functions W 0) (functions H 0) (f 0)
-    ++ (grid (functions W 1) (functions H 1) (f 1)
-    ++ (grid (functions W 2) (functions H 2) (f 2)
-    ++ grid (functions W 3) (functions H 3) (f 3)))
+-- The slice that holds given coefficients: the parts of the n levels from L on, and of all four.
+unfoldable pub sliceFrom : ℕ → ℕ → (ℕ → ℕ → ℕ → ℤ) → ℕ → ℕ → List ℤ
+sliceFrom W H f L zero = []
+sliceFrom W H f L (suc n) = grid (functions W L) (functions H L) (f L) ++ sliceFrom W H f (suc L) n
+
+abbrev pub sliceOf : ℕ → ℕ → (ℕ → ℕ → ℕ → ℤ) → List ℤ
+sliceOf W H f = sliceFrom W H f 0 4
 
 -- "A level L coefficient is a signed whole number of 1/64^L watt, at most 32,000×64^L in size."
 abbrev pub limit : ℕ → ℕ
