@@ -12,3 +12,4 @@ pub mod Linear
 pub mod Refine
 pub mod PatchReading
 pub mod Bounds
+pub mod Selection
