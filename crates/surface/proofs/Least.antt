@@ -2,7 +2,7 @@
 use mathlib.Core.Path.{_≡_, refl, sym, ap, _∙_, subst}
 use mathlib.Core.Bool.{Bool, true, false, _&&_, cond}
 use Prim.Native.Nat.{ℕ, zero, suc, _+_, _-_, _*_, _≤_, _<_, min}
-use native.Mathlib.Nat.{le-refl, le-trans, min-le-left, min-le-right, le-min, le-of-eq, lt-suc-self, le-step, mul-le-mul-right}
+use native.Mathlib.Nat.{le-refl, le-trans, min-le-left, min-le-right, le-min, le-of-eq, le-antisymm, lt-suc-self, le-step, mul-le-mul-right}
 use native.Mathlib.Nat.{mul-assoc, mul-comm, add-mul}
 use native.Mathlib.Decide.{decLt}
 use native.Mathlib.Omega.{arith}
@@ -77,13 +77,20 @@ module _ (W H : ℕ) where
   leastUnder-le-3 lev L a b = least-le-top 3 (quarters W) _
 
   -- regions that rise raise the least level under each support
-  pub leastUnder-raise : (old new : ℕ → ℕ → ℕ) → ((q r : ℕ) → old q r ≤ new q r) → (L a b : ℕ)
-      → leastUnder W H old L a b ≤ leastUnder W H new L a b
+  pub leastUnder-raise : (old new : ℕ → ℕ → ℕ) → ((q r : ℕ) → q < quarters W → r < quarters H → old q r ≤ new q r)
+      → (L a b : ℕ) → leastUnder W H old L a b ≤ leastUnder W H new L a b
   unfolding leastUnder
   leastUnder-raise old new h L a b =
       let p : ℕ → ℕ → Bool = λ q r. shares W L a q && shares H L b r in
       le-leastWhere (leastWhere W H old p) new p (least-le-top 3 (quarters W) _)
-      (λ q r hq hr e. le-trans (leastWhere-le old p q r hq hr e) (h q r))
+      (λ q r hq hr e. le-trans (leastWhere-le old p q r hq hr e) (h q r hq hr))
+
+  -- the least level depends on the levels of the sheet alone
+  pub leastUnder-cong : (f g : ℕ → ℕ → ℕ) → ((q r : ℕ) → q < quarters W → r < quarters H → f q r ≡ g q r)
+      → (L a b : ℕ) → leastUnder W H f L a b ≡ leastUnder W H g L a b
+  leastUnder-cong f g h L a b =
+      le-antisymm (leastUnder-raise f g (λ q r hq hr. le-of-eq (h q r hq hr)) L a b)
+      (leastUnder-raise g f (λ q r hq hr. le-of-eq (sym (h q r hq hr))) L a b)
 
 -- ---- a parent's support contains its children's
 

@@ -13,3 +13,5 @@ pub mod Refine
 pub mod PatchReading
 pub mod Bounds
 pub mod TableLaws
+pub mod Selection
+pub mod Insertion

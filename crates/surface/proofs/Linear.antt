@@ -40,3 +40,15 @@ module _ (W H : ℕ) (lev : ℕ → ℕ → ℕ) (x y : ℤ) (f g h : ℕ → �
           ∙ ap (λ t. t +ℤ sum2 (functions W L) (functions H L) (λ a b. y *ℤ one h L a b))
           (sum2-scale (functions W L) (functions H L) x (one g L))
           ∙ ap (λ t. x *ℤ level g L +ℤ t) (sum2-scale (functions W L) (functions H L) y (one h L))
+
+-- the reading depends on the coefficients of its functions alone
+pub reading-cong : (W H : ℕ) (lev : ℕ → ℕ → ℕ) (f g : ℕ → ℕ → ℕ → ℤ)
+    → ((L a b : ℕ) → L < 4 → a < functions W L → b < functions H L → f L a b ≡ g L a b)
+    → (u v : ℕ) → reading W H lev f u v ≡ reading W H lev g u v
+unfolding reading
+reading-cong W H lev f g h u v =
+    sum-cong 4 (λ L. levelReading W H lev f u v L) (λ L. levelReading W H lev g u v L)
+    λ L hL. sum2-cong (functions W L) (functions H L)
+    (λ a b. cond (active W H lev L a b) (f L a b *ℤ truncated W H lev u v (3 - L) L a b) (pos 0))
+    (λ a b. cond (active W H lev L a b) (g L a b *ℤ truncated W H lev u v (3 - L) L a b) (pos 0))
+    λ a b ha hb. ap (λ t. cond (active W H lev L a b) (t *ℤ truncated W H lev u v (3 - L) L a b) (pos 0)) (h L a b hL ha hb)

@@ -11,7 +11,7 @@ use lib.IntN.{ℤ, pos, _*ℤ_}
 use Rattle.finite.specs.Range.{sum2}
 use Rattle.finite.proofs.Sum.{sum2-cong}
 use Rattle.finite.proofs.Weighted.{weighted-cong}
-use Rattle.surface.specs.Sheet.{functions}
+use Rattle.surface.specs.Sheet.{functions, quarters}
 use Rattle.surface.specs.Support.{leastUnder, active}
 use Rattle.surface.specs.Spline.{splineAt}
 use Rattle.surface.specs.Truncation.{weight, weight2, reading}
@@ -19,7 +19,8 @@ use Rattle.surface.specs.Carry.{carried, carriedOver}
 use Rattle.surface.proofs.Least.{leastUnder-parent, leastUnder-raise, leastUnder-le-3}
 use Rattle.surface.proofs.Carried.{factors, carried-own, carried-sum, carried-reading}
 
-module _ (W H : ℕ) (old new : ℕ → ℕ → ℕ) (rise : (q r : ℕ) → old q r ≤ new q r) (coef : ℕ → ℕ → ℕ → ℤ) where
+module _ (W H : ℕ) (old new : ℕ → ℕ → ℕ) (rise : (q r : ℕ) → q < quarters W → r < quarters H → old q r ≤ new q r)
+    (coef : ℕ → ℕ → ℕ → ℤ) where
   abbrev after : ℕ → ℕ → ℕ → ℤ
   after L a b = carriedOver W H old new coef L a b
 

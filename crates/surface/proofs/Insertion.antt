@@ -1,0 +1,193 @@
+-- An accepted insertion: the new tree has the raised levels, the table stays acceptable, and no reading moves.
+use mathlib.Core.Path.{_≡_, refl, sym, ap, _∙_, subst}
+use mathlib.Core.Logic.{_⊎_, inl, inr}
+use mathlib.Core.Bool.{Bool, true, false, not, _&&_, cond}
+use mathlib.Core.List.{List, [], _∷_, _++_}
+use Prim.Native.Nat.{ℕ, zero, suc, _+_, _-_, _*_, _^_, _≤_, _<_, max}
+use native.Mathlib.Nat.{zero-add, mul-left-comm, one-le-pow, le-trans, le-of-eq}
+use native.Mathlib.Omega.{arith}
+use lib.IntN.{ℤ, pos, negℤ, natAbs, _*ℤ_}
+use lib.Dec.{leb, ltb, eqb, lit<, lit≤}
+use borrow.Author.Tests.{ltb-true, ltb-false, lt-ltb, leb-true, eqb-true, eqb-false, eq-eqb}
+use Rattle.surface.specs.Sheet.{Box, goodSide, functions, quarters}
+use Rattle.surface.specs.Quadtree.{Quadtree, found, bytes, parse, wellFormed, levelAt, regionTree}
+use Rattle.surface.specs.Support.{leastUnder, active, inBox}
+use Rattle.surface.specs.Carry.{raised, carried, carriedOver}
+use Rattle.surface.specs.Table.{levels, slots, coefficients, sliceOf, limit, Acceptable, tableReading}
+use Rattle.surface.specs.Calls.{newLevels, newTree, newCoefficients, boxCause}
+use Rattle.surface.proofs.TreeBytes.{parse-bytes}
+use Rattle.surface.proofs.TreeLevels.{levelAt-regionTree, regionTree-ext, regionTree-wellFormed, levelAt-le, levelAt-beyond}
+use Rattle.surface.proofs.Least.{both, pick, lts-true, lts-intro, leastUnder-cong, leastUnder-raise}
+use Rattle.surface.proofs.TableLaws.{Formed, good-side, levels-of, Sound, slice-length, slice-coefficient}
+use Rattle.surface.proofs.Linear.{reading-cong}
+use Rattle.surface.proofs.Refine.{carriedOver-active, refine-reading}
+use Rattle.surface.proofs.Bounds.{Between, carried-between}
+use Rattle.finite.proofs.Int.{mul-neg}
+use Rattle.finite.proofs.Order.{scale-mono, scale-reflects, abs-le, le-abs}
+use lib.Pow.{pow-add}
+use lib.Signed.{_≤ℤ_}
+
+append-nil : (l : List ℕ) → l ++ [] ≡ l
+append-nil [] = refl
+append-nil (x ∷ l) = ap (λ t. x ∷ t) (append-nil l)
+
+-- a square of the box lies before its far corner
+in-box : (b : Box) (q r : ℕ) → inBox b q r ≡ true → (q < b .u1) × (r < b .v1)
+in-box b q r e =
+    let e2 = both (leb (b .u0) q && ltb q (b .u1)) (leb (b .v0) r && ltb r (b .v1)) e in
+    (ltb-true q (b .u1) (both (leb (b .u0) q) (ltb q (b .u1)) (e2 .0) .1),
+    ltb-true r (b .v1) (both (leb (b .v0) r) (ltb r (b .v1)) (e2 .1) .1))
+
+module _ (W H : ℕ) (t : List ℕ) (f : Formed W H t) (hW : W ≤ 8) (hH : H ≤ 8) (box : Box) (n : ℕ) (hn : n ≤ 3)
+    (hu : box .u1 ≤ quarters W) (hv : box .v1 ≤ quarters H) where
+  -- the levels after the insertion, on the square of the tree; beyond it there is nothing
+  clipped : ℕ → ℕ → ℕ
+  clipped q r = cond (ltb q 32 && ltb r 32) (newLevels t box n q r) 0
+
+  old-le : (q r : ℕ) → levels t q r ≤ 3
+  old-le q r = rw (levels-of W H t f q r) (levelAt-le W H 5 0 0 (f .tree) q r (f .shape))
+
+  new-le : (q r : ℕ) → newLevels t box n q r ≤ 3
+  new-le q r = pick (inBox box q r) (λ b. cond b (max (levels t q r) n) (levels t q r) ≤ 3) (λ _. omega (arith, old-le q r)) (λ _. old-le q r)
+
+  -- beyond the sheet the old level is 0, and the box does not reach there
+  new-beyond : (q r : ℕ) → q < 32 → r < 32 → (quarters W ≤ q) ⊎ (quarters H ≤ r) → newLevels t box n q r ≡ 0
+  new-beyond q r hq hr e =
+      pick (inBox box q r) (λ b. cond b (max (levels t q r) n) (levels t q r) ≡ 0)
+      (λ i. absurd (outside e (in-box box q r i)))
+      (λ _. levels-of W H t f q r ∙ levelAt-beyond W H 5 0 0 (f .tree) q r (f .shape) hq hr (from-corner e))
+    where
+      outside : (quarters W ≤ q) ⊎ (quarters H ≤ r) → (q < box .u1) × (r < box .v1) → ⊥
+      outside (inl h) i = omega arith
+      outside (inr h) i = omega arith
+
+      from-corner : (quarters W ≤ q) ⊎ (quarters H ≤ r) → (quarters W ≤ 0 + q) ⊎ (quarters H ≤ 0 + r)
+      from-corner (inl h) = inl (omega arith)
+      from-corner (inr h) = inr (omega arith)
+
+  clipped-inside : (q r : ℕ) → q < 32 → r < 32 → clipped q r ≡ newLevels t box n q r
+  unfolding clipped
+  clipped-inside q r hq hr = rw (lts-intro q 32 r 32 hq hr)
+
+  -- of a level of the square what holds of the new levels there, and of 0
+  clipped-cases : (P : ℕ → Type 0) (q r : ℕ) → (q < 32 → r < 32 → P (newLevels t box n q r)) → P 0 → P (clipped q r)
+  unfolding clipped
+  clipped-cases P q r h z =
+      pick (ltb q 32 && ltb r 32) (λ b. P (cond b (newLevels t box n q r) 0))
+      (λ e. let i = lts-true q 32 r 32 e in h (i .0) (i .1)) (λ _. z)
+
+  pub newRegions : Quadtree
+  newRegions = regionTree 5 0 0 (newLevels t box n)
+
+  pub new-formed : Formed W H (newTree t box n)
+  unfolding newRegions newTree
+  new-formed =
+      let shape : wellFormed W H 5 0 0 newRegions ≡ true =
+          subst (λ q. wellFormed W H 5 0 0 q ≡ true)
+          (regionTree-ext 5 0 0 clipped (newLevels t box n)
+          (λ q r hq hr. clipped-inside (0 + q) (0 + r) (omega arith) (omega arith)))
+          (regionTree-wellFormed W H 5 0 0 clipped
+          (λ q r. clipped-cases (λ l. l ≤ 3) q r (λ _ _. new-le q r) (lit≤ tt))
+          (λ q r h. clipped-cases (λ l. l ≡ 0) q r (λ hq hr. new-beyond q r hq hr (inl h)) refl)
+          (λ q r h. clipped-cases (λ l. l ≡ 0) q r (λ hq hr. new-beyond q r hq hr (inr h)) refl)) in
+      record {
+        tree = newRegions;
+        whole = subst (λ l. parse 5 l ≡ found newRegions []) (append-nil (bytes newRegions)) (parse-bytes W H 5 0 0 newRegions [] shape);
+        shape = shape;
+      }
+
+  -- the new tree has the raised levels
+  pub new-levels : (q r : ℕ) → q < quarters W → r < quarters H → levels (newTree t box n) q r ≡ newLevels t box n q r
+  unfolding newRegions newTree new-formed
+  new-levels q r hq hr =
+      levels-of W H (newTree t box n) new-formed q r
+      ∙ levelAt-regionTree 5 0 0 (newLevels t box n) q r (omega arith) (omega arith)
+      ∙ rw (zero-add q, zero-add r)
+
+-- a coefficient within its limit, in units of level 3, is at most 32,000×64^3 in size, and the other way round
+limit-scaled : (n L : ℕ) → n + L ≡ 3 → 64 ^ n * limit L ≡ limit 3
+limit-scaled n L e = mul-left-comm (64 ^ n) 32000 (64 ^ L) ∙ ap (λ k. 32000 * k) (sym (pow-add 64 n L) ∙ ap (λ k. 64 ^ k) e)
+
+scaled-between : (n L : ℕ) (z : ℤ) → n + L ≡ 3 → natAbs z ≤ limit L
+    → Between (negℤ (pos (limit 3))) (pos (64 ^ n) *ℤ z) (pos (limit 3))
+scaled-between n L z e h =
+    let b = abs-le z h in
+    let m = limit-scaled n L e in
+    (subst (λ k. negℤ (pos k) ≤ℤ (pos (64 ^ n) *ℤ z)) m
+    (subst (λ k. k ≤ℤ (pos (64 ^ n) *ℤ z)) (mul-neg (pos (64 ^ n)) (pos (limit L))) (scale-mono (64 ^ n) (b .0))),
+    subst (λ k. (pos (64 ^ n) *ℤ z) ≤ℤ pos k) m (scale-mono (64 ^ n) (b .1)))
+
+between-scaled : (n L : ℕ) (z : ℤ) → n + L ≡ 3 → Between (negℤ (pos (limit 3))) (pos (64 ^ n) *ℤ z) (pos (limit 3))
+    → natAbs z ≤ limit L
+between-scaled n L z e b =
+    let m = sym (limit-scaled n L e) in
+    let p : 0 < 64 ^ n = one-le-pow n 64 (lit< tt) in
+    le-abs z
+    (scale-reflects (64 ^ n) p
+    (subst (λ k. k ≤ℤ (pos (64 ^ n) *ℤ z)) (sym (mul-neg (pos (64 ^ n)) (pos (limit L))))
+    (subst (λ k. negℤ (pos k) ≤ℤ (pos (64 ^ n) *ℤ z)) m (b .0))))
+    (scale-reflects (64 ^ n) p (subst (λ k. (pos (64 ^ n) *ℤ z) ≤ℤ pos k) m (b .1)))
+
+-- in an acceptable table each carried value that counts is within the limit of its level
+pub carried-limit : (W H : ℕ) (t : List ℕ) (cs : List ℤ) → Sound W H t cs → (L a b : ℕ) → L < 4 → a < functions W L
+    → b < functions H L → leastUnder W H (levels t) L a b ≤ L
+    → natAbs (carried W H (levels t) (coefficients W H cs) L a b) ≤ limit L
+carried-limit W H t cs s L a b hL ha hb h =
+    let e : 3 - L + L ≡ 3 = omega arith in
+    between-scaled (3 - L) L (carried W H (levels t) (coefficients W H cs) L a b) e
+    (carried-between W H (levels t) (coefficients W H cs) (negℤ (pos (limit 3))) (pos (limit 3)) (λ _ _ _. Unit {0})
+    (λ _ _ _ _ _ _ _ _ _. tt)
+    (λ n M c d m hc hd act _. scaled-between n M (coefficients W H cs M c d) m
+    (s .limits M c d (omega arith) hc hd (eq-eqb (leastUnder W H (levels t) M c d) M act)))
+    L (3 - L) e a b ha hb h tt)
+
+module _ (W H : ℕ) (t : List ℕ) (cs : List ℤ) (s : Sound W H t cs) (box : Box) (n : ℕ) (hn : n ≤ 3)
+    (hu : box .u1 ≤ quarters W) (hv : box .v1 ≤ quarters H) where
+  abbrev new : ℕ → ℕ → ℕ
+  new = levels (newTree t box n)
+
+  formed′ : Formed W H (newTree t box n)
+  formed′ = new-formed W H t (s .tree) (good-side W (s .side-W) .1) (good-side H (s .side-H) .1) box n hn hu hv
+
+  levels′ : (q r : ℕ) → q < quarters W → r < quarters H → new q r ≡ newLevels t box n q r
+  levels′ = new-levels W H t (s .tree) (good-side W (s .side-W) .1) (good-side H (s .side-H) .1) box n hn hu hv
+
+  rise : (q r : ℕ) → q < quarters W → r < quarters H → levels t q r ≤ new q r
+  rise q r hq hr =
+      rw (levels′ q r hq hr)
+      (pick (inBox box q r) (λ b. levels t q r ≤ cond b (max (levels t q r) n) (levels t q r))
+      (λ _. omega arith) (λ _. omega arith))
+
+  abbrev after : ℕ → ℕ → ℕ → ℤ
+  after L a b = carriedOver W H (levels t) new (coefficients W H cs) L a b
+
+  -- the slice written holds the carried values of the functions active under the new tree
+  new-coefficient : (L a b : ℕ) → L < 4 → a < functions W L → b < functions H L
+      → coefficients W H (newCoefficients W H t cs box n) L a b ≡ after L a b
+  unfolding newCoefficients
+  new-coefficient L a b hL ha hb =
+      slice-coefficient W H (carriedOver W H (levels t) (newLevels t box n) (coefficients W H cs)) L a b hL ha hb
+      ∙ ap (λ m. cond (eqb m L) (carried W H (levels t) (coefficients W H cs) L a b) (pos 0))
+      (leastUnder-cong W H (newLevels t box n) new (λ q r hq hr. sym (levels′ q r hq hr)) L a b)
+
+  pub insertion-sound : Sound W H (newTree t box n) (newCoefficients W H t cs box n)
+  insertion-sound =
+      record {
+        side-W = s .side-W;
+        side-H = s .side-H;
+        tree = formed′;
+        size = unfold newCoefficients in slice-length W H _;
+        limits = λ L a b hL ha hb act.
+          let e = eqb-true (leastUnder W H new L a b) L act in
+          subst (λ z. natAbs z ≤ limit L)
+          (sym (new-coefficient L a b hL ha hb
+          ∙ carriedOver-active W H (levels t) new rise (coefficients W H cs) L a b e))
+          (carried-limit W H t cs s L a b hL ha hb (le-trans (leastUnder-raise W H (levels t) new rise L a b) (le-of-eq e)));
+        passive = λ L a b hL ha hb act. new-coefficient L a b hL ha hb ∙ rw act;
+      }
+
+  pub insertion-reading : (u v : ℕ)
+      → tableReading W H (newTree t box n) (newCoefficients W H t cs box n) u v ≡ tableReading W H t cs u v
+  insertion-reading u v =
+      reading-cong W H new (coefficients W H (newCoefficients W H t cs box n)) after new-coefficient u v
+      ∙ refine-reading W H (levels t) new rise (coefficients W H cs) u v
