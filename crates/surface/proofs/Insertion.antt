@@ -27,16 +27,17 @@ use Rattle.finite.proofs.Order.{scale-mono, scale-reflects, abs-le, le-abs}
 use lib.Pow.{pow-add}
 use lib.Signed.{_≤ℤ_}
 
-append-nil : (l : List ℕ) → l ++ [] ≡ l
+pub append-nil : (l : List ℕ) → l ++ [] ≡ l
 append-nil [] = refl
 append-nil (x ∷ l) = ap (λ t. x ∷ t) (append-nil l)
 
 -- a square of the box lies before its far corner
 in-box : (b : Box) (q r : ℕ) → inBox b q r ≡ true → (q < b .u1) × (r < b .v1)
 in-box b q r e =
-    let e2 = both (leb (b .u0) q && ltb q (b .u1)) (leb (b .v0) r && ltb r (b .v1)) e in
-    (ltb-true q (b .u1) (both (leb (b .u0) q) (ltb q (b .u1)) (e2 .0) .1),
-    ltb-true r (b .v1) (both (leb (b .v0) r) (ltb r (b .v1)) (e2 .1) .1))
+    let e2 = both (leb (b .u0) q && ltb q (b .u1)) (leb (b .v0) r && ltb r (b .v1)) e in (
+      ltb-true q (b .u1) (both (leb (b .u0) q) (ltb q (b .u1)) (e2 .0) .1),
+      ltb-true r (b .v1) (both (leb (b .v0) r) (ltb r (b .v1)) (e2 .1) .1),
+    )
 
 module _ (W H : ℕ) (t : List ℕ) (f : Formed W H t) (hW : W ≤ 8) (hH : H ≤ 8) (box : Box) (n : ℕ) (hn : n ≤ 3)
     (hu : box .u1 ≤ quarters W) (hv : box .v1 ≤ quarters H) where
@@ -83,13 +84,13 @@ module _ (W H : ℕ) (t : List ℕ) (f : Formed W H t) (hW : W ≤ 8) (hH : H �
   unfolding newRegions newTree
   new-formed =
       let shape : wellFormed W H 5 0 0 newRegions ≡ true =
-          subst (λ q. wellFormed W H 5 0 0 q ≡ true)
-          (regionTree-ext 5 0 0 clipped (newLevels t box n)
-          (λ q r hq hr. clipped-inside (0 + q) (0 + r) (omega arith) (omega arith)))
-          (regionTree-wellFormed W H 5 0 0 clipped
-          (λ q r. clipped-cases (λ l. l ≤ 3) q r (λ _ _. new-le q r) (lit≤ tt))
-          (λ q r h. clipped-cases (λ l. l ≡ 0) q r (λ hq hr. new-beyond q r hq hr (inl h)) refl)
-          (λ q r h. clipped-cases (λ l. l ≡ 0) q r (λ hq hr. new-beyond q r hq hr (inr h)) refl)) in
+      subst (λ q. wellFormed W H 5 0 0 q ≡ true)
+      (regionTree-ext 5 0 0 clipped (newLevels t box n)
+      (λ q r hq hr. clipped-inside (0 + q) (0 + r) (omega arith) (omega arith)))
+      (regionTree-wellFormed W H 5 0 0 clipped
+      (λ q r. clipped-cases (λ l. l ≤ 3) q r (λ _ _. new-le q r) (lit≤ tt))
+      (λ q r h. clipped-cases (λ l. l ≡ 0) q r (λ hq hr. new-beyond q r hq hr (inl h)) refl)
+      (λ q r h. clipped-cases (λ l. l ≡ 0) q r (λ hq hr. new-beyond q r hq hr (inr h)) refl)) in
       record {
         tree = newRegions;
         whole = subst (λ l. parse 5 l ≡ found newRegions []) (append-nil (bytes newRegions)) (parse-bytes W H 5 0 0 newRegions [] shape);
@@ -108,14 +109,15 @@ module _ (W H : ℕ) (t : List ℕ) (f : Formed W H t) (hW : W ≤ 8) (hH : H �
 limit-scaled : (n L : ℕ) → n + L ≡ 3 → 64 ^ n * limit L ≡ limit 3
 limit-scaled n L e = mul-left-comm (64 ^ n) 32000 (64 ^ L) ∙ ap (λ k. 32000 * k) (sym (pow-add 64 n L) ∙ ap (λ k. 64 ^ k) e)
 
-scaled-between : (n L : ℕ) (z : ℤ) → n + L ≡ 3 → natAbs z ≤ limit L
+pub scaled-between : (n L : ℕ) (z : ℤ) → n + L ≡ 3 → natAbs z ≤ limit L
     → Between (negℤ (pos (limit 3))) (pos (64 ^ n) *ℤ z) (pos (limit 3))
 scaled-between n L z e h =
     let b = abs-le z h in
-    let m = limit-scaled n L e in
-    (subst (λ k. negℤ (pos k) ≤ℤ (pos (64 ^ n) *ℤ z)) m
-    (subst (λ k. k ≤ℤ (pos (64 ^ n) *ℤ z)) (mul-neg (pos (64 ^ n)) (pos (limit L))) (scale-mono (64 ^ n) (b .0))),
-    subst (λ k. (pos (64 ^ n) *ℤ z) ≤ℤ pos k) m (scale-mono (64 ^ n) (b .1)))
+    let m = limit-scaled n L e in (
+      subst (λ k. negℤ (pos k) ≤ℤ (pos (64 ^ n) *ℤ z)) m
+          (subst (λ k. k ≤ℤ (pos (64 ^ n) *ℤ z)) (mul-neg (pos (64 ^ n)) (pos (limit L))) (scale-mono (64 ^ n) (b .0))),
+      subst (λ k. (pos (64 ^ n) *ℤ z) ≤ℤ pos k) m (scale-mono (64 ^ n) (b .1)),
+    )
 
 between-scaled : (n L : ℕ) (z : ℤ) → n + L ≡ 3 → Between (negℤ (pos (limit 3))) (pos (64 ^ n) *ℤ z) (pos (limit 3))
     → natAbs z ≤ limit L
@@ -178,11 +180,11 @@ module _ (W H : ℕ) (t : List ℕ) (cs : List ℤ) (s : Sound W H t cs) (box : 
         tree = formed′;
         size = unfold newCoefficients in slice-length W H _;
         limits = λ L a b hL ha hb act.
-          let e = eqb-true (leastUnder W H new L a b) L act in
-          subst (λ z. natAbs z ≤ limit L)
-          (sym (new-coefficient L a b hL ha hb
-          ∙ carriedOver-active W H (levels t) new rise (coefficients W H cs) L a b e))
-          (carried-limit W H t cs s L a b hL ha hb (le-trans (leastUnder-raise W H (levels t) new rise L a b) (le-of-eq e)));
+            let e = eqb-true (leastUnder W H new L a b) L act in
+            subst (λ z. natAbs z ≤ limit L)
+            (sym (new-coefficient L a b hL ha hb
+            ∙ carriedOver-active W H (levels t) new rise (coefficients W H cs) L a b e))
+            (carried-limit W H t cs s L a b hL ha hb (le-trans (leastUnder-raise W H (levels t) new rise L a b) (le-of-eq e)));
         passive = λ L a b hL ha hb act. new-coefficient L a b hL ha hb ∙ rw act;
       }
 

@@ -15,3 +15,4 @@ pub mod Bounds
 pub mod TableLaws
 pub mod Selection
 pub mod Insertion
+pub mod Demands

@@ -135,6 +135,18 @@ module _ (W H : ℕ) (f : ℕ → ℕ → ℕ → ℤ) where
   slice-coefficient L a b hL ha hb =
       at-place L 4 0 L (place W H L a b) a b (add-zero L) hL ha hb (zero-add (place W H L a b))
 
+-- each function's place is in the slice
+pub place-in-slice : (W H L a b : ℕ) → L < 4 → a < functions W L → b < functions H L → place W H L a b < slots W H
+place-in-slice W H L a b hL ha hb =
+    let e : 3 - L + suc L ≡ 4 = omega arith in
+    omega (
+      arith,
+      place-below (functions W L) (functions H L) a b ha hb,
+      start-step W H L,
+      mul-comm (functions W L) (functions H L),
+      subst (λ k. start W H (suc L) ≤ start W H k) e (start-mono W H (3 - L) (suc L)),
+    )
+
 -- ---- tests at each function
 
 module _ (W H : ℕ) (p : ℕ → ℕ → ℕ → Bool) where
@@ -202,16 +214,16 @@ sound W H t cs e =
       tree = formed-tree W H t (cause-none 1 (formed W H (treeOf t)) (e1 .1));
       size = eqb-true (length cs) (slots W H) (cause-none 2 (eqb (length cs) (slots W H)) (e3 .0));
       limits = λ L a b hL ha hb p.
-        leb-true (natAbs (coefficients W H cs L a b)) (limit L)
-        (when-active (active W H (levels t) L a b) (leb (natAbs (coefficients W H cs L a b)) (limit L))
-        (everywhere-true W H (λ L a b. not (active W H (levels t) L a b) || leb (natAbs (coefficients W H cs L a b)) (limit L))
-        good4 L a b hL ha hb) p);
+          leb-true (natAbs (coefficients W H cs L a b)) (limit L)
+          (when-active (active W H (levels t) L a b) (leb (natAbs (coefficients W H cs L a b)) (limit L))
+          (everywhere-true W H (λ L a b. not (active W H (levels t) L a b) || leb (natAbs (coefficients W H cs L a b)) (limit L))
+          good4 L a b hL ha hb) p);
       passive = λ L a b hL ha hb p.
-        zero-of-abs (coefficients W H cs L a b)
-        (eqb-true (natAbs (coefficients W H cs L a b)) 0
-        (when-passive (active W H (levels t) L a b) (eqb (natAbs (coefficients W H cs L a b)) 0)
-        (everywhere-true W H (λ L a b. active W H (levels t) L a b || eqb (natAbs (coefficients W H cs L a b)) 0)
-        good5 L a b hL ha hb) p));
+          zero-of-abs (coefficients W H cs L a b)
+          (eqb-true (natAbs (coefficients W H cs L a b)) 0
+          (when-passive (active W H (levels t) L a b) (eqb (natAbs (coefficients W H cs L a b)) 0)
+          (everywhere-true W H (λ L a b. active W H (levels t) L a b || eqb (natAbs (coefficients W H cs L a b)) 0)
+          good5 L a b hL ha hb) p));
     }
 
 pub acceptable : (W H : ℕ) (t : List ℕ) (cs : List ℤ) → Sound W H t cs → Acceptable W H t cs

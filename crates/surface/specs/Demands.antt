@@ -7,11 +7,11 @@ use mathlib.Core.List.{List, [], _∷_}
 use Prim.Native.Nat.{ℕ, suc, _+_, _*_, _/_, _^_, _≤_, _<_, max}
 use lib.IntN.{ℤ, pos, natAbs, _+ℤ_, _*ℤ_}
 use lib.Signed.{_≤ℤ_}
-use lib.ListN.{getD, take}
+use lib.ListN.{length, getD, take}
 use Rattle.surface.specs.Sheet.{Box, goodSide, functions, quarters, onSheet}
 use Rattle.surface.specs.Support.{lowEnd, highEnd, active, holds, inBox}
 use Rattle.surface.specs.Truncation.{D}
-use Rattle.surface.specs.Table.{levels, slots, coefficients, Acceptable, tableReading}
+use Rattle.surface.specs.Table.{treeOf, formed, levels, slots, coefficients, Acceptable, tableReading}
 use Rattle.surface.specs.Calls.{Answer, refused, gives, Written, insertOutcome}
 
 -- ---- demand 2: "A function is active exactly when the selection rule of source document 003 makes it so."
@@ -66,11 +66,17 @@ InsertionRaises =
     → levels (step W H c i .tree) q r
     ≡ cond (inBox (i .box) q r) (max (levels (c .tree) q r) (i .level)) (levels (c .tree) q r)
 
--- ---- demand 3: linearity
+-- ---- "So one set of regions has one tree, of 1 to 1,365 bytes."
 
--- "share one sheet and one set of regions"
 abbrev pub SameRegions : ℕ → ℕ → List ℕ → List ℕ → Type 0
 SameRegions W H s t = (q r : ℕ) → q < quarters W → r < quarters H → levels s q r ≡ levels t q r
+
+abbrev pub OneTree : Type 0
+OneTree =
+    (W H : ℕ) → W ≤ 8 → H ≤ 8 → (s t : List ℕ) → formed W H (treeOf s) ≡ true → formed W H (treeOf t) ≡ true
+    → ((1 ≤ length t) × (length t ≤ 1365)) × (SameRegions W H s t → s ≡ t)
+
+-- ---- demand 3: linearity, of tables that "share one sheet and one set of regions"
 
 -- "at every place the first's coefficient is a times the second's plus b times the third's, a and b whole. Then at every
 -- point the first's exact reading is a times the second's plus b times the third's."
