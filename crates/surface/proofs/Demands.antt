@@ -20,24 +20,27 @@ use Rattle.finite.proofs.Extremum.{Lowest, Highest, Nowhere, least3, greatest3}
 use Rattle.surface.specs.Sheet.{Box, goodSide, functions, quarters, onSheet}
 use Rattle.surface.specs.Quadtree.{bytes, levelAt}
 use Rattle.surface.specs.Support.{leastUnder, active, holdsAlong, holds, inBox}
-use Rattle.surface.specs.Spline.{splineAt}
+use Rattle.surface.specs.Spline.{cellOf, splineAt}
 use Rattle.surface.specs.Truncation.{D, weight, reading}
 use Rattle.surface.specs.Table.{cause, _orElse_, levels, slots, place, coefficients, limit, tableCause, Acceptable, tableReading}
 use Rattle.surface.specs.Calls.{Answer, refused, gives, answer, afterwards, put, Written, insertCause, insertOutcome}
 use Rattle.surface.specs.Calls.{boxCause, lengthCause, treeOutCause, newLevels, newTree, newCoefficients}
 use Rattle.surface.specs.Demands.{SelectionRule, Insertion, Contents, left, outcomeOf, step, InsertionRaises}
 use Rattle.surface.specs.Demands.{SameRegions, OneTree, LinearReadings, Around, Bracketed, BracketedReadings, afterAll}
-use Rattle.surface.specs.Demands.{RefinementMovesNoReading, ReadingFits}
+use Rattle.surface.specs.Demands.{RefinementMovesNoReading, ReadingFits, PatchEvaluates, TwoScale}
 use Rattle.surface.proofs.TreeBytes.{bytes-parse, tree-length}
 use Rattle.surface.proofs.TreeLevels.{levelAt-le, levelAt-beyond, one-tree}
+use Rattle.surface.proofs.SplineCell.{cell-inside}
 use Rattle.surface.proofs.SplineTwoScale.{spline-holds}
+use Rattle.surface.proofs.TwoScaleSum.{two-scale-sum, whole-step}
 use Rattle.surface.proofs.Least.{both, and-intro, holds-parent}
 use Rattle.surface.proofs.Selection.{selection}
 use Rattle.surface.proofs.TableLaws.{orElse-none, cause-none, good-side, Formed, formed-tree, levels-of, Sound, sound, acceptable}
 use Rattle.surface.proofs.TableLaws.{place-in-slice}
 use Rattle.surface.proofs.Linear.{linear}
 use Rattle.surface.proofs.Bounds.{Between, reading-between}
-use Rattle.surface.proofs.Insertion.{append-nil, scaled-between, new-levels, insertion-sound, insertion-reading}
+use Rattle.surface.proofs.PatchReading.{patch-carried, patch-reading}
+use Rattle.surface.proofs.Insertion.{append-nil, carried-fits, scaled-between, new-levels, insertion-sound, insertion-reading}
 
 on-sheet : (W H u v : ℕ) → onSheet W H u v ≡ true → (u ≤ 128 * W) × (v ≤ 128 * H)
 on-sheet W H u v e =
@@ -154,6 +157,26 @@ bracketed-readings W H t cs acc u v on = bracketed W H t cs acc u v on
 -- the numerator is at most 32,000×D in size
 pub reading-fits : ReadingFits
 reading-fits W H t cs acc u v on = fits W H t cs acc u v on
+
+-- "The work is on a four by four patch of coefficients, subdivided from level to level."
+pub patch-evaluates : PatchEvaluates
+patch-evaluates W H t cs acc u v on =
+    let s = sound W H t cs acc in
+    let pW = good-side W (s .side-W) .0 in
+    let pH = good-side H (s .side-H) .0 in
+    let p = on-sheet W H u v on in (
+      patch-reading W H (levels t) (coefficients W H cs) u v pW pH (p .0) (p .1),
+      λ L k l hL hk hl.
+          let iu = cell-inside W L u pW (p .0) (omega arith) in
+          let iv = cell-inside H L v pH (p .1) (omega arith) in
+          subst (λ z. natAbs z ≤ limit L)
+          (sym (patch-carried W H (levels t) (coefficients W H cs) u v pW pH (p .0) (p .1) L (omega arith) k l hk hl))
+          (carried-fits W H t cs s L (cellOf W L u + k) (cellOf H L v + l) hL (omega arith) (omega arith)),
+    )
+
+-- The two-scale relation of the splines.
+pub two-scale : TwoScale
+two-scale n L a u p l h = (two-scale-sum n L a u p l h, whole-step L l)
 
 -- ---- one tree
 

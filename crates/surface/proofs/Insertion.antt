@@ -5,10 +5,11 @@ use mathlib.Core.Bool.{Bool, true, false, not, _&&_, cond}
 use mathlib.Core.List.{List, [], _∷_, _++_}
 use Prim.Native.Nat.{ℕ, zero, suc, _+_, _-_, _*_, _^_, _≤_, _<_, max}
 use native.Mathlib.Nat.{zero-add, mul-left-comm, one-le-pow, le-trans, le-of-eq}
+use native.Mathlib.Decide.{decLe}
 use native.Mathlib.Omega.{arith}
 use lib.IntN.{ℤ, pos, negℤ, natAbs, _*ℤ_}
 use lib.Dec.{leb, ltb, eqb, lit<, lit≤}
-use borrow.Author.Tests.{ltb-true, ltb-false, lt-ltb, leb-true, eqb-true, eqb-false, eq-eqb}
+use borrow.Author.Tests.{ltb-true, ltb-false, lt-ltb, leb-true, eqb-true, eq-eqb, ne-eqb}
 use Rattle.surface.specs.Sheet.{Box, goodSide, functions, quarters}
 use Rattle.surface.specs.Quadtree.{Quadtree, found, bytes, parse, wellFormed, levelAt, regionTree}
 use Rattle.surface.specs.Support.{leastUnder, active, inBox}
@@ -19,6 +20,7 @@ use Rattle.surface.proofs.TreeBytes.{parse-bytes}
 use Rattle.surface.proofs.TreeLevels.{levelAt-regionTree, regionTree-ext, regionTree-wellFormed, levelAt-le, levelAt-beyond}
 use Rattle.surface.proofs.Least.{both, pick, lts-true, lts-intro, leastUnder-cong, leastUnder-raise}
 use Rattle.surface.proofs.TableLaws.{Formed, good-side, levels-of, Sound, slice-length, slice-coefficient}
+use Rattle.surface.proofs.Carried.{carried-own}
 use Rattle.surface.proofs.Linear.{reading-cong}
 use Rattle.surface.proofs.Refine.{carriedOver-active, refine-reading}
 use Rattle.surface.proofs.Bounds.{Between, carried-between}
@@ -142,6 +144,22 @@ carried-limit W H t cs s L a b hL ha hb h =
     (λ n M c d m hc hd act _. scaled-between n M (coefficients W H cs M c d) m
     (s .limits M c d (omega arith) hc hd (eq-eqb (leastUnder W H (levels t) M c d) M act)))
     L (3 - L) e a b ha hb h tt)
+
+-- where a function's least level is above its own, it carries its passive coefficient, 0; so every carried value fits
+pub carried-fits : (W H : ℕ) (t : List ℕ) (cs : List ℤ) → Sound W H t cs → (L a b : ℕ) → L < 4 → a < functions W L
+    → b < functions H L → natAbs (carried W H (levels t) (coefficients W H cs) L a b) ≤ limit L
+carried-fits W H t cs s L a b hL ha hb = go (decLe (leastUnder W H (levels t) L a b) L)
+  where
+    own : (M : ℕ) → M < leastUnder W H (levels t) M a b
+        → carried W H (levels t) (coefficients W H cs) M a b ≡ coefficients W H cs M a b
+    own zero h = unfold carried in refl
+    own (suc M) h = carried-own W H (levels t) (coefficients W H cs) M a b (omega arith)
+
+    go : Dec (leastUnder W H (levels t) L a b ≤ L) → natAbs (carried W H (levels t) (coefficients W H cs) L a b) ≤ limit L
+    go (yes h) = carried-limit W H t cs s L a b hL ha hb h
+    go (no h) =
+        rw (own L (omega arith), s .passive L a b hL ha hb (ne-eqb (leastUnder W H (levels t) L a b) L (λ e. h (omega arith))))
+        (omega arith)
 
 module _ (W H : ℕ) (t : List ℕ) (cs : List ℤ) (s : Sound W H t cs) (box : Box) (n : ℕ) (hn : n ≤ 3)
     (hu : box .u1 ≤ quarters W) (hv : box .v1 ≤ quarters H) where

@@ -5,6 +5,7 @@ pub mod SplineWeight
 pub mod SplinePiece
 pub mod SplineCell
 pub mod SplineTwoScale
+pub mod TwoScaleSum
 pub mod Least
 pub mod Parents
 pub mod Carried
@@ -16,3 +17,4 @@ pub mod TableLaws
 pub mod Selection
 pub mod Insertion
 pub mod Demands
+pub mod Bench

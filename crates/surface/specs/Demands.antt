@@ -8,10 +8,13 @@ use Prim.Native.Nat.{ℕ, suc, _+_, _*_, _/_, _^_, _≤_, _<_, max}
 use lib.IntN.{ℤ, pos, natAbs, _+ℤ_, _*ℤ_}
 use lib.Signed.{_≤ℤ_}
 use lib.ListN.{length, getD, take}
-use Rattle.surface.specs.Sheet.{Box, goodSide, functions, quarters, onSheet}
+use Rattle.finite.specs.Range.{sum}
+use Rattle.surface.specs.Sheet.{Box, functions, steps, quarters, onSheet}
 use Rattle.surface.specs.Support.{lowEnd, highEnd, active, holds, inBox}
-use Rattle.surface.specs.Truncation.{D}
-use Rattle.surface.specs.Table.{treeOf, formed, levels, slots, coefficients, Acceptable, tableReading}
+use Rattle.surface.specs.Spline.{splineAt}
+use Rattle.surface.specs.Truncation.{D, weight}
+use Rattle.surface.specs.Patch.{patch, patchReading}
+use Rattle.surface.specs.Table.{treeOf, formed, levels, slots, coefficients, limit, Acceptable, tableReading}
 use Rattle.surface.specs.Calls.{Answer, refused, gives, Written, insertOutcome}
 
 -- ---- demand 2: "A function is active exactly when the selection rule of source document 003 makes it so."
@@ -138,10 +141,26 @@ RefinementMovesNoReading =
     × Bracketed W H (c .tree) (c .numbers) u v
     (tableReading W H (afterAll W H c is .tree) (afterAll W H c is .numbers) u v))
 
--- ---- "a signed i64 numerator over D"
+-- ---- "a signed i64 numerator over D", "on a four by four patch of coefficients"
 
 -- The numerator is at most 32,000×D in size, which is below 2^63.
 abbrev pub ReadingFits : Type 0
 ReadingFits =
     (W H : ℕ) (t : List ℕ) (cs : List ℤ) → Acceptable W H t cs
     → (u v : ℕ) → onSheet W H u v ≡ true → natAbs (tableReading W H t cs u v) ≤ 32000 * D
+
+-- The patch subdivided from level to level gives the exact reading, and each entry keeps its level's limit.
+abbrev pub PatchEvaluates : Type 0
+PatchEvaluates =
+    (W H : ℕ) (t : List ℕ) (cs : List ℤ) → Acceptable W H t cs → (u v : ℕ) → onSheet W H u v ≡ true
+    → (tableReading W H t cs u v ≡ patchReading W H (levels t) (coefficients W H cs) u v)
+    × ((L k l : ℕ) → L < 4 → k < 4 → l < 4 → natAbs (patch W H (levels t) (coefficients W H cs) u v L k l) ≤ limit L)
+
+-- ---- "Function (i) of level L is the sum of functions 2i to 2i+4 of level L+1 with weights 1, 4, 6, 4, 1 over 8"
+
+-- It holds of these splines, along each direction: the numerators with the bare weights, over wholes that differ by 8.
+abbrev pub TwoScale : Type 0
+TwoScale =
+    (n L a u : ℕ) → 0 < n → L < 3 → u ≤ 128 * n
+    → (pos (splineAt n L a u) ≡ sum (functions n (suc L)) (λ c. pos (weight a c * splineAt n (suc L) c u)))
+    × (6 * steps L ^ 3 ≡ 8 * (6 * steps (suc L) ^ 3))

@@ -10,3 +10,4 @@ pub mod Calls
 pub mod FloatReading
 pub mod TableFile
 pub mod Demands
+pub mod Bench

@@ -1,0 +1,121 @@
+-- The bench sheet's starred cases: by computation and, where a case speaks of a reading, of every point or of thousands of
+-- functions, by the laws first.
+use mathlib.Core.Path.{_≡_, refl, sym, ap, _∙_, subst}
+use mathlib.Core.Bool.{true, _&&_, cond}
+use mathlib.Core.List.{List, [], _∷_, _++_}
+use Prim.Native.Nat.{ℕ, _+_, _*_, _^_, _≤_, _<_}
+use native.Mathlib.Nat.{le-refl, le-antisymm, one-le-pow, mul-comm, mul-left-comm}
+use lib.IntN.{ℤ, pos, _*ℤ_}
+use lib.Dec.{lit<, lit≤}
+use lib.Signed.{_≤ℤ_}
+use borrow.Author.Tests.{eq-eqb}
+use Rattle.finite.specs.Range.{sum, every, count, total, least, tableFrom, rowsFrom}
+use Rattle.finite.proofs.Order.{scale-reflects, ≤ℤ-antisym}
+use Rattle.finite.proofs.Tests.{count-all, total-const}
+use Rattle.surface.specs.Sheet.{eighths, functions, onSheet}
+use Rattle.surface.specs.Quadtree.{bytes, parse, wellFormed, levelAt, regionTree, visits}
+use Rattle.surface.specs.Support.{shares, leastUnder, active}
+use Rattle.surface.specs.Spline.{cellOf, piece, splineAt}
+use Rattle.surface.specs.Truncation.{D, weight, truncated}
+use Rattle.surface.specs.Carry.{carried}
+use Rattle.surface.specs.Patch.{patch, patchReading}
+use Rattle.surface.specs.Table.{levels, start, coefficients, sliceFrom, withinLimits, passiveZero, regionCause}
+use Rattle.surface.specs.Table.{tableCause, Acceptable, tableReading}
+use Rattle.surface.specs.Calls.{Answer, gives, answer, newTree, newCoefficients, insertCause, insertOutcome}
+use Rattle.surface.specs.Calls.{leastOutcome, readingCause, exactOutcome}
+use Rattle.surface.specs.TableFile.{activeInRow, activeCount}
+use Rattle.surface.specs.Demands.{Around, Bracketed}
+use Rattle.surface.specs.Bench.{refined, S, flat, single, level700, BenchSheet, ThreeLevels}
+use Rattle.surface.proofs.Least.{leastUnder-le-3, le-leastWhere}
+use Rattle.surface.proofs.TableLaws.{slice-coefficient, none-orElse}
+use Rattle.surface.proofs.PatchReading.{patch-reading}
+use Rattle.surface.proofs.Demands.{bracketed-readings}
+
+-- a reading on the unrefined 1 by 1 sheet, by its patch
+read : (cs : List ℤ) (u v : ℕ) (n : ℤ) → readingCause 1 1 flat cs u v ≡ 0 → u ≤ 128 → v ≤ 128
+    → patchReading 1 1 (levels flat) (coefficients 1 1 cs) u v ≡ n → exactOutcome 1 1 flat cs u v ≡ gives n
+unfolding exactOutcome
+read cs u v n e hu hv r =
+    rw (e, patch-reading 1 1 (levels flat) (coefficients 1 1 cs) u v (lit< tt) (lit< tt) hu hv, r)
+
+-- ---- every active coefficient 700 watts
+
+level700-acceptable : Acceptable 2 1 refined level700
+unfolding tableCause regionCause withinLimits passiveZero every leastUnder least eighths levels levelAt parse wellFormed start
+    sliceFrom coefficients tableFrom rowsFrom
+level700-acceptable = refl
+
+-- an active coefficient of level L is 700×64^L
+level700-at : (u v : ℕ) (f : Around 2 1 refined u v)
+    → coefficients 2 1 level700 (f .L) (f .a) (f .b) ≡ pos (700 * 64 ^ (f .L))
+level700-at u v f =
+    slice-coefficient 2 1 (λ L a b. cond (active 2 1 (levels refined) L a b) (pos 700 *ℤ pos (64 ^ L)) (pos 0))
+    (f .L) (f .a) (f .b) (f .level) (f .alongU) (f .alongV)
+    ∙ rw (f .isActive)
+
+-- 700×64^L over 64^L is 700
+level700-reading : (u v : ℕ) → onSheet 2 1 u v ≡ true → tableReading 2 1 refined level700 u v ≡ pos (700 * D)
+level700-reading u v on =
+    let b = bracketed-readings 2 1 refined level700 level700-acceptable u v on in
+    ≤ℤ-antisym
+    (scale-reflects (64 ^ (b .high .L)) (one-le-pow (b .high .L) 64 (lit< tt))
+    (subst (λ x. (pos (64 ^ (b .high .L)) *ℤ tableReading 2 1 refined level700 u v) ≤ℤ x) (value (b .high)) (b .atMost)))
+    (scale-reflects (64 ^ (b .low .L)) (one-le-pow (b .low .L) 64 (lit< tt))
+    (subst (λ x. x ≤ℤ (pos (64 ^ (b .low .L)) *ℤ tableReading 2 1 refined level700 u v)) (value (b .low)) (b .atLeast)))
+  where
+    value : (f : Around 2 1 refined u v)
+        → pos D *ℤ coefficients 2 1 level700 (f .L) (f .a) (f .b) ≡ pos (64 ^ (f .L)) *ℤ pos (700 * D)
+    value f =
+        ap (λ x. pos D *ℤ x) (level700-at u v f)
+        ∙ ap pos (ap (λ x. D * x) (mul-comm 700 (64 ^ (f .L))) ∙ mul-left-comm D (64 ^ (f .L)) 700)
+
+level700-outcome : (u v : ℕ) → onSheet 2 1 u v ≡ true → exactOutcome 2 1 refined level700 u v ≡ gives (pos (700 * D))
+unfolding exactOutcome readingCause
+level700-outcome u v on = rw (level700-acceptable, on, level700-reading u v on)
+
+-- ---- a whole sheet of level 3
+
+level3 : (a b : ℕ) → active 8 8 (levels (3 ∷ [])) 3 a b ≡ true
+unfolding leastUnder levels levelAt parse
+level3 a b =
+    eq-eqb (leastUnder 8 8 (levels (3 ∷ [])) 3 a b) 3
+    (le-antisymm (leastUnder-le-3 8 8 (levels (3 ∷ [])) 3 a b)
+    (le-leastWhere 8 8 3 (levels (3 ∷ [])) (λ q r. shares 8 3 a q && shares 8 3 b r) (le-refl 3) (λ q r hq hr e. le-refl 3)))
+
+level3-count : activeCount 8 8 (levels (3 ∷ [])) 3 ≡ 4489
+unfolding activeCount activeInRow
+level3-count =
+    total-const 67 67 (λ b. activeInRow 8 8 (levels (3 ∷ [])) 3 b)
+    (λ b h. count-all 67 (λ a. active 8 8 (levels (3 ∷ [])) 3 a b) (λ a l. level3 a b))
+
+-- ---- the table
+
+pub bench-sheet : BenchSheet
+unfolding readingCause tableCause regionCause withinLimits passiveZero every leastUnder least eighths levels levelAt parse
+    wellFormed start sliceFrom coefficients tableFrom rowsFrom patchReading patch sum cellOf piece insertOutcome insertCause
+    newTree newCoefficients bytes regionTree carried weight activeCount activeInRow total count leastOutcome visits exactOutcome
+bench-sheet =
+    record {
+      slope = read S 64 5 (pos 79164837199872000) refl (lit≤ tt) (lit≤ tt) refl;
+      corner = read (single 0 0) 0 0 (pos (2 ^ 42)) refl (lit≤ tt) (lit≤ tt) refl;
+      farCorner = read (single 0 0) 128 128 (pos 0) refl (lit≤ tt) (lit≤ tt) refl;
+      next = read (single 1 1) 0 0 (pos (2 ^ 46)) refl (lit≤ tt) (lit≤ tt) refl;
+      inserted = refl;
+      insertedActive = refl;
+      visited = refl;
+      twoByOne0 = refl;
+      twoByOne1 = refl;
+      visitedBoth = refl;
+      equal = level700-outcome;
+      finest = level3-count;
+      unmerged = refl;
+      beyond = refl;
+      whole = refl;
+      lastPoint = read S 128 5 (pos (1000 * D)) refl (lit≤ tt) (lit≤ tt) refl;
+      pastPoint = refl;
+      pastBox = refl;
+    }
+
+pub three-levels : ThreeLevels
+unfolding truncated sum leastUnder least eighths weight splineAt cellOf piece
+three-levels = refl
