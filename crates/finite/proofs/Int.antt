@@ -8,7 +8,8 @@ use native.Mathlib.Omega.{arith}
 use lib.Dec.{T, ltb, leb, leb→le, le→leb}
 use borrow.Author.Tests.{ltb-true, ltb-false}
 use lib.IntN.{ℤ, pos, negsuc, sucℤ, predℤ, negℤ, natAbs, subℕ, _+ℤ_, _-ℤ_, _*ℤ_, negℤ-negℤ, negℤ-+ℤ}
-use lib.IntN.{+ℤ-sucℤ, +ℤ-predℤ, +ℤ-idl, +ℤ-idr, +ℤ-assoc, +ℤ-comm, +ℤ-invr, sucℤ-*ℤ, predℤ-*ℤ, zero-*ℤ, *ℤ-zero, *ℤ-comm}
+use lib.IntN.{+ℤ-sucℤ, +ℤ-predℤ, +ℤ-idl, +ℤ-idr, +ℤ-assoc, +ℤ-comm, +ℤ-invr, sucℤ-*ℤ, predℤ-*ℤ, zero-*ℤ, *ℤ-zero}
+use lib.IntN.{*ℤ-comm}
 use lib.Signed.{_≤ℤ_, leZ}
 
 -- ---- the ring
@@ -34,9 +35,11 @@ pub *ℤ-assoc : (x y z : ℤ) → x *ℤ y *ℤ z ≡ x *ℤ (y *ℤ z)
     (λ a. sign-cases (λ y. pos a *ℤ y *ℤ z ≡ pos a *ℤ (y *ℤ z))
     (λ b. sign-cases (λ z. pos a *ℤ pos b *ℤ z ≡ pos a *ℤ (pos b *ℤ z))
     (λ c. ap pos (mul-assoc a b c))
-    (λ z e. mul-neg (pos a *ℤ pos b) z ∙ ap negℤ e ∙ sym (mul-neg (pos a) (pos b *ℤ z)) ∙ ap (λ t. pos a *ℤ t) (sym (mul-neg (pos b) z)))
+    (λ z e. mul-neg (pos a *ℤ pos b) z ∙ ap negℤ e ∙ sym (mul-neg (pos a) (pos b *ℤ z)) ∙ ap (λ t. pos a *ℤ t)
+    (sym (mul-neg (pos b) z)))
     z)
-    (λ y e. ap (λ t. t *ℤ z) (mul-neg (pos a) y) ∙ neg-mul (pos a *ℤ y) z ∙ ap negℤ e ∙ sym (mul-neg (pos a) (y *ℤ z)) ∙ ap (λ t. pos a *ℤ t) (sym (neg-mul y z)))
+    (λ y e. ap (λ t. t *ℤ z) (mul-neg (pos a) y) ∙ neg-mul (pos a *ℤ y) z ∙ ap negℤ e ∙ sym
+    (mul-neg (pos a) (y *ℤ z)) ∙ ap (λ t. pos a *ℤ t) (sym (neg-mul y z)))
     y)
     (λ x e. ap (λ t. t *ℤ z) (neg-mul x y) ∙ neg-mul (x *ℤ y) z ∙ ap negℤ e ∙ sym (neg-mul x (y *ℤ z)))
     x
@@ -57,7 +60,8 @@ add-*ℤ x (negsuc (suc n)) z =
     ∙ +ℤ-assoc (x *ℤ z) (negsuc n *ℤ z) (negℤ z) ∙ ap (λ t. x *ℤ z +ℤ t) (sym (predℤ-*ℤ (negsuc n) z))
 
 pub *ℤ-add : (x y z : ℤ) → x *ℤ (y +ℤ z) ≡ x *ℤ y +ℤ x *ℤ z
-*ℤ-add x y z = *ℤ-comm x (y +ℤ z) ∙ add-*ℤ y z x ∙ ap (λ t. t +ℤ z *ℤ x) (*ℤ-comm y x) ∙ ap (λ t. x *ℤ y +ℤ t) (*ℤ-comm z x)
+*ℤ-add x y z = *ℤ-comm x (y +ℤ z) ∙ add-*ℤ y z x ∙ ap (λ t. t +ℤ z *ℤ x) (*ℤ-comm y x) ∙ ap (λ t. x *ℤ y +ℤ t)
+    (*ℤ-comm z x)
 
 pub *ℤ-left-comm : (x y z : ℤ) → x *ℤ (y *ℤ z) ≡ y *ℤ (x *ℤ z)
 *ℤ-left-comm x y z = sym (*ℤ-assoc x y z) ∙ ap (λ t. t *ℤ z) (*ℤ-comm x y) ∙ *ℤ-assoc y x z

@@ -55,7 +55,8 @@ sum-window n lo k f h low high =
     let e : n ≡ lo + k + (n - (lo + k)) = omega arith in
     ap (λ t. sum t f) e
     ∙ sum-split (lo + k) (n - (lo + k)) f
-    ∙ ap (λ t. sum (lo + k) f +ℤ t) (sum-zero (n - (lo + k)) (λ j. f (lo + k + j)) (λ j l. high (lo + k + j) (omega arith)))
+    ∙ ap (λ t. sum (lo + k) f +ℤ t) (sum-zero (n - (lo + k)) (λ j. f (lo + k + j))
+    (λ j l. high (lo + k + j) (omega arith)))
     ∙ +ℤ-idr (sum (lo + k) f)
     ∙ sum-split lo k f
     ∙ ap (λ t. t +ℤ sum k (λ j. f (lo + j))) (sum-zero lo f low)
@@ -65,14 +66,16 @@ sum-window n lo k f h low high =
 
 pub sum2-cong : (n m : ℕ) (f g : ℕ → ℕ → ℤ) → ((a b : ℕ) → a < n → b < m → f a b ≡ g a b) → sum2 n m f ≡ sum2 n m g
 sum2-cong n m f g h =
-    sum-cong n (λ a. sum m (λ b. f a b)) (λ a. sum m (λ b. g a b)) (λ a la. sum-cong m (f a) (g a) (λ b lb. h a b la lb))
+    sum-cong n (λ a. sum m (λ b. f a b)) (λ a. sum m (λ b. g a b))
+    (λ a la. sum-cong m (f a) (g a) (λ b lb. h a b la lb))
 
 pub sum2-zero : (n m : ℕ) (f : ℕ → ℕ → ℤ) → ((a b : ℕ) → a < n → b < m → f a b ≡ pos 0) → sum2 n m f ≡ pos 0
 sum2-zero n m f h = sum-zero n (λ a. sum m (λ b. f a b)) (λ a la. sum-zero m (f a) (λ b lb. h a b la lb))
 
 pub sum2-add : (n m : ℕ) (f g : ℕ → ℕ → ℤ) → sum2 n m (λ a b. f a b +ℤ g a b) ≡ sum2 n m f +ℤ sum2 n m g
 sum2-add n m f g =
-    sum-cong n (λ a. sum m (λ b. f a b +ℤ g a b)) (λ a. sum m (λ b. f a b) +ℤ sum m (λ b. g a b)) (λ a la. sum-add m (f a) (g a))
+    sum-cong n (λ a. sum m (λ b. f a b +ℤ g a b)) (λ a. sum m (λ b. f a b) +ℤ sum m (λ b. g a b))
+    (λ a la. sum-add m (f a) (g a))
     ∙ sum-add n (λ a. sum m (λ b. f a b)) (λ a. sum m (λ b. g a b))
 
 pub sum2-scale : (n m : ℕ) (c : ℤ) (f : ℕ → ℕ → ℤ) → sum2 n m (λ a b. c *ℤ f a b) ≡ c *ℤ sum2 n m f
@@ -82,7 +85,8 @@ sum2-scale n m c f =
 
 pub sum2-mono : (n m : ℕ) (f g : ℕ → ℕ → ℤ) → ((a b : ℕ) → a < n → b < m → f a b ≤ℤ g a b) → sum2 n m f ≤ℤ sum2 n m g
 sum2-mono n m f g h =
-    sum-mono n (λ a. sum m (λ b. f a b)) (λ a. sum m (λ b. g a b)) (λ a la. sum-mono m (f a) (g a) (λ b lb. h a b la lb))
+    sum-mono n (λ a. sum m (λ b. f a b)) (λ a. sum m (λ b. g a b))
+    (λ a la. sum-mono m (f a) (g a) (λ b lb. h a b la lb))
 
 -- one grid's sum inside another's
 pub sum2-swap : (n m p q : ℕ) (f : ℕ → ℕ → ℕ → ℕ → ℤ)
@@ -91,13 +95,16 @@ sum2-swap n m p q f =
     sum-cong n (λ a. sum m (λ b. sum2 p q (λ c d. f a b c d))) (λ a. sum p (λ c. sum m (λ b. sum q (λ d. f a b c d))))
     (λ a la. sum-swap m p (λ b c. sum q (λ d. f a b c d)))
     ∙ sum-swap n p (λ a c. sum m (λ b. sum q (λ d. f a b c d)))
-    ∙ sum-cong p (λ c. sum n (λ a. sum m (λ b. sum q (λ d. f a b c d)))) (λ c. sum q (λ d. sum2 n m (λ a b. f a b c d)))
-    (λ c lc. sum-cong n (λ a. sum m (λ b. sum q (λ d. f a b c d))) (λ a. sum q (λ d. sum m (λ b. f a b c d))) (λ a la. sum-swap m q (λ b d. f a b c d))
+    ∙ sum-cong p (λ c. sum n (λ a. sum m (λ b. sum q (λ d. f a b c d))))
+    (λ c. sum q (λ d. sum2 n m (λ a b. f a b c d)))
+    (λ c lc. sum-cong n (λ a. sum m (λ b. sum q (λ d. f a b c d))) (λ a. sum q (λ d. sum m (λ b. f a b c d)))
+    (λ a la. sum-swap m q (λ b d. f a b c d))
     ∙ sum-swap n q (λ a d. sum m (λ b. f a b c d)))
 
 -- a product of weights, one for each direction, and a term of both
 pub sum2-product : (n m : ℕ) (f g : ℕ → ℤ) → sum2 n m (λ a b. f a *ℤ g b) ≡ sum n f *ℤ sum m g
 sum2-product n m f g =
-    sum-cong n (λ a. sum m (λ b. f a *ℤ g b)) (λ a. sum m g *ℤ f a) (λ a la. sum-scale m (f a) g ∙ *ℤ-comm (f a) (sum m g))
+    sum-cong n (λ a. sum m (λ b. f a *ℤ g b)) (λ a. sum m g *ℤ f a)
+    (λ a la. sum-scale m (f a) g ∙ *ℤ-comm (f a) (sum m g))
     ∙ sum-scale n (sum m g) f
     ∙ *ℤ-comm (sum m g) (sum n f)

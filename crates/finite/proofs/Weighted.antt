@@ -37,13 +37,15 @@ module _ (n m : ℕ) (w : ℕ → ℕ → ℕ) (f : ℕ → ℕ → ℤ) (x : �
       → (sum2 n m (λ a b. pos (w a b)) *ℤ x) ≤ℤ (sum2 n m (λ a b. pos (w a b) *ℤ f a b))
   weighted-low h =
       rw scaled
-      (sum2-mono n m (λ a b. pos (w a b) *ℤ x) (λ a b. pos (w a b) *ℤ f a b) (λ a b la lb. term-mono (w a b) x (f a b) (h a b la lb)))
+      (sum2-mono n m (λ a b. pos (w a b) *ℤ x) (λ a b. pos (w a b) *ℤ f a b)
+      (λ a b la lb. term-mono (w a b) x (f a b) (h a b la lb)))
 
   pub weighted-high : ((a b : ℕ) → a < n → b < m → 0 < w a b → f a b ≤ℤ x)
       → (sum2 n m (λ a b. pos (w a b) *ℤ f a b)) ≤ℤ (sum2 n m (λ a b. pos (w a b)) *ℤ x)
   weighted-high h =
       rw scaled
-      (sum2-mono n m (λ a b. pos (w a b) *ℤ f a b) (λ a b. pos (w a b) *ℤ x) (λ a b la lb. term-mono (w a b) (f a b) x (h a b la lb)))
+      (sum2-mono n m (λ a b. pos (w a b) *ℤ f a b) (λ a b. pos (w a b) *ℤ x)
+      (λ a b la lb. term-mono (w a b) (f a b) x (h a b la lb)))
 
 pub weighted-cong : (n m : ℕ) (w : ℕ → ℕ → ℕ) (f g : ℕ → ℕ → ℤ)
     → ((a b : ℕ) → a < n → b < m → 0 < w a b → f a b ≡ g a b)
@@ -56,7 +58,8 @@ weighted-cong n m w f g h =
 split-weight : (n : ℕ) (x : ℕ) (w : ℕ → ℕ) (g : ℕ → ℤ)
     → sum n (λ b. pos (x * w b) *ℤ g b) ≡ pos x *ℤ sum n (λ b. pos (w b) *ℤ g b)
 split-weight n x w g =
-    sum-cong n (λ b. pos (x * w b) *ℤ g b) (λ b. pos x *ℤ (pos (w b) *ℤ g b)) (λ b l. *ℤ-assoc (pos x) (pos (w b)) (g b))
+    sum-cong n (λ b. pos (x * w b) *ℤ g b) (λ b. pos x *ℤ (pos (w b) *ℤ g b))
+    (λ b l. *ℤ-assoc (pos x) (pos (w b)) (g b))
     ∙ sum-scale n (pos x) (λ b. pos (w b) *ℤ g b)
 
 -- where the weighted sum along each direction has fewer terms, so has the sum over both

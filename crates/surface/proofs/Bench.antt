@@ -1,4 +1,5 @@
--- The bench sheet's starred cases: by computation and, where a case speaks of a reading, of every point or of thousands of
+-- The bench sheet's starred cases: by computation and, where a case speaks of a reading, of every point or of
+-- thousands of
 -- functions, by the laws first.
 use mathlib.Core.Path.{_≡_, refl, sym, ap, _∙_, subst}
 use mathlib.Core.Bool.{true, _&&_, cond}
@@ -41,7 +42,8 @@ read cs u v n e hu hv r =
 -- ---- every active coefficient 700 watts
 
 level700-acceptable : Acceptable 2 1 refined level700
-unfolding tableCause regionCause withinLimits passiveZero every leastUnder least eighths levels levelAt parse wellFormed start
+unfolding tableCause regionCause withinLimits passiveZero every leastUnder least eighths levels levelAt parse
+    wellFormed start
     sliceFrom coefficients tableFrom rowsFrom
 level700-acceptable = refl
 
@@ -59,9 +61,11 @@ level700-reading u v on =
     let b = bracketed-readings 2 1 refined level700 level700-acceptable u v on in
     ≤ℤ-antisym
     (scale-reflects (64 ^ (b .high .L)) (one-le-pow (b .high .L) 64 (lit< tt))
-    (subst (λ x. (pos (64 ^ (b .high .L)) *ℤ tableReading 2 1 refined level700 u v) ≤ℤ x) (value (b .high)) (b .atMost)))
+    (subst (λ x. (pos (64 ^ (b .high .L)) *ℤ tableReading 2 1 refined level700 u v) ≤ℤ x) (value (b .high))
+    (b .atMost)))
     (scale-reflects (64 ^ (b .low .L)) (one-le-pow (b .low .L) 64 (lit< tt))
-    (subst (λ x. x ≤ℤ (pos (64 ^ (b .low .L)) *ℤ tableReading 2 1 refined level700 u v)) (value (b .low)) (b .atLeast)))
+    (subst (λ x. x ≤ℤ (pos (64 ^ (b .low .L)) *ℤ tableReading 2 1 refined level700 u v)) (value (b .low))
+    (b .atLeast)))
   where
     value : (f : Around 2 1 refined u v)
         → pos D *ℤ coefficients 2 1 level700 (f .L) (f .a) (f .b) ≡ pos (64 ^ (f .L)) *ℤ pos (700 * D)
@@ -80,7 +84,8 @@ unfolding leastUnder levels levelAt parse
 level3 a b =
     eq-eqb (leastUnder 8 8 (levels (3 ∷ [])) 3 a b) 3
     (le-antisymm (leastUnder-le-3 8 8 (levels (3 ∷ [])) 3 a b)
-    (le-leastWhere 8 8 3 (levels (3 ∷ [])) (λ q r. shares 8 3 a q && shares 8 3 b r) (le-refl 3) (λ q r hq hr e. le-refl 3)))
+    (le-leastWhere 8 8 3 (levels (3 ∷ [])) (λ q r. shares 8 3 a q && shares 8 3 b r) (le-refl 3)
+    (λ q r hq hr e. le-refl 3)))
 
 level3-count : activeCount 8 8 (levels (3 ∷ [])) 3 ≡ 4489
 unfolding activeCount activeInRow
@@ -91,9 +96,12 @@ level3-count =
 -- ---- the table
 
 pub bench-sheet : BenchSheet
-unfolding readingCause tableCause regionCause withinLimits passiveZero every leastUnder least eighths levels levelAt parse
-    wellFormed start sliceFrom coefficients tableFrom rowsFrom patchReading patch sum cellOf piece insertOutcome insertCause
-    newTree newCoefficients bytes regionTree carried weight activeCount activeInRow total count leastOutcome visits exactOutcome
+unfolding readingCause tableCause regionCause withinLimits passiveZero every leastUnder least eighths levels levelAt
+    parse
+    wellFormed start sliceFrom coefficients tableFrom rowsFrom patchReading patch sum cellOf piece insertOutcome
+    insertCause
+    newTree newCoefficients bytes regionTree carried weight activeCount activeInRow total count leastOutcome visits
+    exactOutcome
 bench-sheet =
     record {
       slope = read S 64 5 (pos 79164837199872000) refl (lit≤ tt) (lit≤ tt) refl;

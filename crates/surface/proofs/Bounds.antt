@@ -113,7 +113,8 @@ module _ (W H : ℕ) (lev : ℕ → ℕ → ℕ) (coef : ℕ → ℕ → ℕ →
           rw (carried-sum W H lev coef L a b m)
           (average n L a b ha hb (λ c d lc ld w.
           let f = factors (weight c a) (weight d b) w in
-          ih c d lc ld (le-trans (leastUnder-parent W H lev L l c d a b (f .0) (f .1)) m) (closed L c d a b l (f .0) (f .1) p)))
+          ih c d lc ld (le-trans (leastUnder-parent W H lev L l c d a b (f .0) (f .1)) m)
+          (closed L c d a b l (f .0) (f .1) p)))
 
   -- and so does the reading, as a numerator over 36×2^24 times them, where P holds of each function not 0 at the point
   pub reading-between : (u v : ℕ) → 0 < W → 0 < H → u ≤ 128 * W → v ≤ 128 * H
@@ -121,8 +122,10 @@ module _ (W H : ℕ) (lev : ℕ → ℕ → ℕ) (coef : ℕ → ℕ → ℕ →
       → Between (pos 603979776 *ℤ lo) (reading W H lev coef u v) (pos 603979776 *ℤ hi)
   reading-between u v pW pH hu hv reach =
       rw (carried-reading W H lev coef u v) (
-        subst (λ t. (t *ℤ lo) ≤ℤ S) total (weighted-low (functions W 3) (functions H 3) w x lo (λ a b la lb p. each a b la lb p .0)),
-        subst (λ t. S ≤ℤ (t *ℤ hi)) total (weighted-high (functions W 3) (functions H 3) w x hi (λ a b la lb p. each a b la lb p .1)),
+        subst (λ t. (t *ℤ lo) ≤ℤ S) total (weighted-low (functions W 3) (functions H 3) w x lo
+            (λ a b la lb p. each a b la lb p .0)),
+        subst (λ t. S ≤ℤ (t *ℤ hi)) total (weighted-high (functions W 3) (functions H 3) w x hi
+            (λ a b la lb p. each a b la lb p .1)),
       )
     where
       w : ℕ → ℕ → ℕ

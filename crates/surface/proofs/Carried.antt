@@ -54,7 +54,8 @@ module _ (W H : ℕ) (lev : ℕ → ℕ → ℕ) (coef : ℕ → ℕ → ℕ →
     -- the part of the reading that levels 0 to L give: carried values times truncated functions of level L
     abbrev coarse : ℕ → ℕ → ℤ
     coarse n L =
-        sum2 (functions W L) (functions H L) λ a b. cond (leb (least-of L a b) L) (carry L a b *ℤ trunc n L a b) (pos 0)
+        sum2 (functions W L) (functions H L) λ a b. cond (leb (least-of L a b) L) (carry L a b *ℤ trunc n L a b)
+        (pos 0)
 
     -- what a child keeps of its parents' truncated functions
     abbrev kept : ℕ → ℕ → ℕ → ℕ → ℤ
@@ -100,7 +101,8 @@ module _ (W H : ℕ) (lev : ℕ → ℕ → ℕ) (coef : ℕ → ℕ → ℕ →
             (λ _. refl)
         go false e =
             let h : least-of (suc L) c d ≤ L = omega (arith, leb-false (suc L) (least-of (suc L) c d) e) in
-            sum2-cong (functions W L) (functions H L) (λ a b. part false a b) (λ a b. x *ℤ (weight2 a b c d *ℤ carry L a b))
+            sum2-cong (functions W L) (functions H L) (λ a b. part false a b)
+            (λ a b. x *ℤ (weight2 a b c d *ℤ carry L a b))
             (λ a b la lb. parent-part a b h)
             ∙ sum2-scale (functions W L) (functions H L) x (λ a b. weight2 a b c d *ℤ carry L a b)
             ∙ ap (λ t. x *ℤ t) (sym (carried-sum L c d h))
@@ -108,7 +110,8 @@ module _ (W H : ℕ) (lev : ℕ → ℕ → ℕ) (coef : ℕ → ℕ → ℕ →
 
     -- a level's own part, with n levels finer than it
     abbrev own : ℕ → ℕ → ℤ
-    own n L = sum2 (functions W L) (functions H L) λ a b. cond (active W H lev L a b) (coef L a b *ℤ trunc n L a b) (pos 0)
+    own n L = sum2 (functions W L) (functions H L) λ a b. cond (active W H lev L a b) (coef L a b *ℤ trunc n L a b)
+        (pos 0)
 
     spread : (n L a b : ℕ) → cond (leb (least-of L a b) L) (carry L a b *ℤ trunc (suc n) L a b) (pos 0)
         ≡ sum2 (functions W (suc L)) (functions H (suc L))
@@ -119,10 +122,12 @@ module _ (W H : ℕ) (lev : ℕ → ℕ → ℕ) (coef : ℕ → ℕ → ℕ →
         (λ t. cond t (carry L a b *ℤ trunc (suc n) L a b) (pos 0)
         ≡ sum2 (functions W (suc L)) (functions H (suc L))
         (λ c d. cond t (carry L a b *ℤ (weight2 a b c d *ℤ kept n L c d)) (pos 0)))
-        (λ _. sym (sum2-scale (functions W (suc L)) (functions H (suc L)) (carry L a b) (λ c d. weight2 a b c d *ℤ kept n L c d)))
+        (λ _. sym (sum2-scale (functions W (suc L)) (functions H (suc L)) (carry L a b)
+        (λ c d. weight2 a b c d *ℤ kept n L c d)))
         (λ _. sym (sum2-zero (functions W (suc L)) (functions H (suc L)) (λ c d. pos 0) (λ c d lc ld. refl)))
 
-    -- a child is in the region of its level and dropped, or below it and collected; if its least level is its own, it is active
+    -- a child is in the region of its level and dropped, or below it and collected; if its least level is its own, it
+    -- is active
     merge : (n L c d : ℕ)
         → cond (inRegion W H lev (suc L) c d) (pos 0) (carry (suc L) c d *ℤ trunc n (suc L) c d)
         +ℤ cond (active W H lev (suc L) c d) (coef (suc L) c d *ℤ trunc n (suc L) c d) (pos 0)
@@ -136,9 +141,16 @@ module _ (W H : ℕ) (lev : ℕ → ℕ → ℕ) (coef : ℕ → ℕ → ℕ →
         x = trunc n (suc L) c d
 
         go : Dec (suc L ≤ m) → Dec (m ≡ suc L)
-            → cond (leb (suc L) m) (pos 0) (carry (suc L) c d *ℤ x) +ℤ cond (eqb m (suc L)) (coef (suc L) c d *ℤ x) (pos 0)
+            → cond (leb (suc L) m) (pos 0) (carry (suc L) c d *ℤ x) +ℤ cond (eqb m (suc L)) (coef (suc L) c d *ℤ x)
+            (pos 0)
             ≡ cond (leb m (suc L)) (carry (suc L) c d *ℤ x) (pos 0)
-        go (no h) e = rw (lt-leb (suc L) m (omega arith), ne-eqb m (suc L) (λ p. h (omega arith)), le-leb m (suc L) (omega arith), +ℤ-idr)
+        go (no h) e = rw (
+          lt-leb (suc L) m (omega arith),
+          ne-eqb m (suc L) (λ p. h (omega arith)),
+          le-leb m (suc L)
+              (omega arith),
+          +ℤ-idr,
+        )
         go (yes h) (yes e) =
             rw (le-leb (suc L) m h, eq-eqb m (suc L) e, le-leb m (suc L) (omega arith), carried-own L c d h, +ℤ-idl)
         go (yes h) (no e) = rw (le-leb (suc L) m h, ne-eqb m (suc L) e, lt-leb m (suc L) (omega arith))
@@ -193,7 +205,8 @@ module _ (W H : ℕ) (lev : ℕ → ℕ → ℕ) (coef : ℕ → ℕ → ℕ →
 
     -- the exact reading is the level 3 spline whose coefficients are the carried values
     pub carried-reading : reading W H lev coef u v
-        ≡ sum2 (functions W 3) (functions H 3) (λ a b. pos (splineAt W 3 a u * splineAt H 3 b v) *ℤ carried W H lev coef 3 a b)
+        ≡ sum2 (functions W 3) (functions H 3) (λ a b. pos (splineAt W 3 a u * splineAt H 3 b v) *ℤ carried W H lev
+        coef 3 a b)
     unfolding reading sum
     carried-reading =
         ap (λ t. t +ℤ own 2 1 +ℤ own 1 2 +ℤ own 0 3) (+ℤ-idl (own 3 0) ∙ sym coarse-0)

@@ -22,11 +22,14 @@ use Rattle.surface.specs.Quadtree.{bytes, levelAt}
 use Rattle.surface.specs.Support.{leastUnder, active, holdsAlong, holds, inBox}
 use Rattle.surface.specs.Spline.{cellOf, splineAt}
 use Rattle.surface.specs.Truncation.{D, weight, reading}
-use Rattle.surface.specs.Table.{cause, _orElse_, levels, slots, place, coefficients, limit, tableCause, Acceptable, tableReading}
-use Rattle.surface.specs.Calls.{Answer, refused, gives, answer, afterwards, put, Written, insertCause, insertOutcome}
+use Rattle.surface.specs.Table.{cause, _orElse_, levels, slots, place, coefficients, limit, tableCause}
+use Rattle.surface.specs.Table.{Acceptable, tableReading}
+use Rattle.surface.specs.Calls.{Answer, refused, gives, answer, afterwards, put, Written, insertCause}
+use Rattle.surface.specs.Calls.{insertOutcome}
 use Rattle.surface.specs.Calls.{boxCause, lengthCause, treeOutCause, newLevels, newTree, newCoefficients}
 use Rattle.surface.specs.Demands.{SelectionRule, Insertion, Contents, left, outcomeOf, step, InsertionRaises}
-use Rattle.surface.specs.Demands.{SameRegions, OneTree, LinearReadings, Around, Bracketed, BracketedReadings, afterAll}
+use Rattle.surface.specs.Demands.{SameRegions, OneTree, LinearReadings, Around, Bracketed, BracketedReadings}
+use Rattle.surface.specs.Demands.{afterAll}
 use Rattle.surface.specs.Demands.{RefinementMovesNoReading, ReadingFits, PatchEvaluates, TwoScale}
 use Rattle.surface.proofs.TreeBytes.{bytes-parse, tree-length}
 use Rattle.surface.proofs.TreeLevels.{levelAt-le, levelAt-beyond, one-tree}
@@ -35,12 +38,14 @@ use Rattle.surface.proofs.SplineTwoScale.{spline-holds}
 use Rattle.surface.proofs.TwoScaleSum.{two-scale-sum, whole-step}
 use Rattle.surface.proofs.Least.{both, and-intro, holds-parent}
 use Rattle.surface.proofs.Selection.{selection}
-use Rattle.surface.proofs.TableLaws.{orElse-none, cause-none, good-side, Formed, formed-tree, levels-of, Sound, sound, acceptable}
+use Rattle.surface.proofs.TableLaws.{orElse-none, cause-none, good-side, Formed, formed-tree, levels-of}
+use Rattle.surface.proofs.TableLaws.{Sound, sound, acceptable}
 use Rattle.surface.proofs.TableLaws.{place-in-slice}
 use Rattle.surface.proofs.Linear.{linear}
 use Rattle.surface.proofs.Bounds.{Between, reading-between}
 use Rattle.surface.proofs.PatchReading.{patch-carried, patch-reading}
-use Rattle.surface.proofs.Insertion.{append-nil, carried-fits, scaled-between, new-levels, insertion-sound, insertion-reading}
+use Rattle.surface.proofs.Insertion.{append-nil, carried-fits, scaled-between, new-levels, insertion-sound}
+use Rattle.surface.proofs.Insertion.{insertion-reading}
 
 on-sheet : (W H u v : ℕ) → onSheet W H u v ≡ true → (u ≤ 128 * W) × (v ≤ 128 * H)
 on-sheet W H u v e =
@@ -119,8 +124,28 @@ module _ (W H : ℕ) (t : List ℕ) (cs : List ℤ) (acc : Acceptable W H t cs) 
       let tl = both (active W H (levels t) (l .L) (l .a) (l .b)) (holds (l .L) (l .a) (l .b) u v) (l .holds) in
       let th = both (active W H (levels t) (h .L) (h .a) (h .b)) (holds (h .L) (h .a) (h .b) u v) (h .holds) in
       record {
-        low = record { L = l .L; a = l .a; b = l .b; level = l .L-in; alongU = l .a-in; alongV = l .b-in; isActive = tl .0; isAround = tl .1 };
-        high = record { L = h .L; a = h .a; b = h .b; level = h .L-in; alongU = h .a-in; alongV = h .b-in; isActive = th .0; isAround = th .1 };
+        low = record {
+          L = l .L;
+          a = l .a;
+          b = l .b;
+          level = l .L-in;
+          alongU = l .a-in;
+          alongV = l .b-in;
+          isActive =
+              tl .0;
+          isAround = tl .1;
+        };
+        high = record {
+          L = h .L;
+          a = h .a;
+          b = h .b;
+          level = h .L-in;
+          alongU = h .a-in;
+          alongV = h .b-in;
+          isActive
+              = th .0;
+          isAround = th .1;
+        };
         atLeast =
             subst (λ x. x ≤ℤ (pos (64 ^ (l .L)) *ℤ R)) (in-watts (l .L) (coef (l .L) (l .a) (l .b)) (l .L-in))
             (scale-mono (64 ^ (l .L)) (b .0));
@@ -131,10 +156,13 @@ module _ (W H : ℕ) (t : List ℕ) (cs : List ℤ) (acc : Acceptable W H t cs) 
 
   bracketed : Bracketed W H t cs u v R
   bracketed =
-      go (least3 4 (λ L. functions W L) (λ L. functions H L) test val) (greatest3 4 (λ L. functions W L) (λ L. functions H L) test val)
+      go (least3 4 (λ L. functions W L) (λ L. functions H L) test val)
+      (greatest3 4 (λ L. functions W L) (λ L. functions H L) test val)
     where
-      go : Nowhere 4 (λ L. functions W L) (λ L. functions H L) test ⊎ Lowest 4 (λ L. functions W L) (λ L. functions H L) test val
-          → Nowhere 4 (λ L. functions W L) (λ L. functions H L) test ⊎ Highest 4 (λ L. functions W L) (λ L. functions H L) test val
+      go : Nowhere 4 (λ L. functions W L) (λ L. functions H L) test ⊎ Lowest 4 (λ L. functions W L)
+          (λ L. functions H L) test val
+          → Nowhere 4 (λ L. functions W L) (λ L. functions H L) test ⊎ Highest 4 (λ L. functions W L)
+          (λ L. functions H L) test val
           → Bracketed W H t cs u v R
       go (inl e) h = absurd (somewhere e)
       go (inr l) (inl e) = absurd (somewhere e)
@@ -197,7 +225,8 @@ same-tree W H hW hH s t f g e =
     -- beyond the sheet both levels are 0
     beyond : (q r : ℕ) → q < 32 → r < 32 → (quarters W ≤ 0 + q) ⊎ (quarters H ≤ 0 + r) → Same q r
     beyond q r hq hr h =
-        levelAt-beyond W H 5 0 0 (f .tree) q r (f .shape) hq hr h ∙ sym (levelAt-beyond W H 5 0 0 (g .tree) q r (g .shape) hq hr h)
+        levelAt-beyond W H 5 0 0 (f .tree) q r (f .shape) hq hr h ∙ sym
+        (levelAt-beyond W H 5 0 0 (g .tree) q r (g .shape) hq hr h)
 
     go : (q r : ℕ) → q < 32 → r < 32 → Dec (q < quarters W) → Dec (r < quarters H) → Same q r
     go q r hq hr (yes a) (yes b) = sym (levels-of W H s f q r) ∙ e q r a b ∙ levels-of W H t g q r
@@ -208,7 +237,8 @@ pub one-tree-each : OneTree
 one-tree-each W H hW hH s t fs ft =
     let f = formed-tree W H s fs in
     let g = formed-tree W H t ft in (
-      subst (λ l. (1 ≤ length l) × (length l ≤ 1365)) (sym (slice-bytes W H t g)) (tree-length W H 0 0 (g .tree) (g .shape)),
+      subst (λ l. (1 ≤ length l) × (length l ≤ 1365)) (sym (slice-bytes W H t g))
+          (tree-length W H 0 0 (g .tree) (g .shape)),
       λ e. same-tree W H hW hH s t f g e,
     )
 
@@ -252,7 +282,11 @@ accepted W H t cs box n treeOut numbersOut e =
 step-cases : (W H : ℕ) (c : Contents) (i : Insertion) (P : Contents → Type 0)
     → ((m : ℕ) → outcomeOf W H c i .result ≡ refused m → P c)
     → (insertCause W H (c .tree) (c .numbers) (i .box) (i .level) (i .treeOut) (i .numbersOut) ≡ 0
-    → P (record { tree = newTree (c .tree) (i .box) (i .level); numbers = newCoefficients W H (c .tree) (c .numbers) (i .box) (i .level) }))
+    → P (record {
+      tree = newTree (c .tree) (i .box) (i .level);
+      numbers = newCoefficients W H (c .tree) (c .numbers)
+          (i .box) (i .level);
+    }))
     → P (step W H c i)
 unfolding insertOutcome
 step-cases W H c i P same new =
@@ -265,7 +299,8 @@ step-cases W H c i P same new =
     numbers′ = newCoefficients W H (c .tree) (c .numbers) (i .box) (i .level)
 
     go : (k : ℕ) → insertCause W H (c .tree) (c .numbers) (i .box) (i .level) (i .treeOut) (i .numbersOut) ≡ k
-        → P (left c (answer k (length tree′)) (afterwards k (i .treeOut) (put tree′ (i .treeOut))) (afterwards k (i .numbersOut) numbers′))
+        → P (left c (answer k (length tree′)) (afterwards k (i .treeOut) (put tree′ (i .treeOut)))
+        (afterwards k (i .numbersOut) numbers′))
     go zero e =
         subst (λ l. P (record { tree = l; numbers = numbers′ }))
         (sym (take-append-seam tree′ (drop (length tree′) (i .treeOut)))) (new e)
@@ -274,7 +309,8 @@ step-cases W H c i P same new =
 -- one insertion, accepted or refused
 step-keeps : (W H : ℕ) (c : Contents) (i : Insertion) → Acceptable W H (c .tree) (c .numbers)
     → Acceptable W H (step W H c i .tree) (step W H c i .numbers)
-    × ((u v : ℕ) → tableReading W H (step W H c i .tree) (step W H c i .numbers) u v ≡ tableReading W H (c .tree) (c .numbers) u v)
+    × ((u v : ℕ) → tableReading W H (step W H c i .tree) (step W H c i .numbers) u v ≡ tableReading W H (c .tree)
+    (c .numbers) u v)
 step-keeps W H c i acc =
     step-cases W H c i
     (λ d. Acceptable W H (d .tree) (d .numbers)
@@ -289,7 +325,8 @@ step-keeps W H c i acc =
 all-keep : (W H : ℕ) (is : List Insertion) (c : Contents) → Acceptable W H (c .tree) (c .numbers)
     → Acceptable W H (afterAll W H c is .tree) (afterAll W H c is .numbers)
     × ((u v : ℕ)
-    → tableReading W H (afterAll W H c is .tree) (afterAll W H c is .numbers) u v ≡ tableReading W H (c .tree) (c .numbers) u v)
+    → tableReading W H (afterAll W H c is .tree) (afterAll W H c is .numbers) u v ≡ tableReading W H (c .tree)
+    (c .numbers) u v)
 unfolding afterAll
 all-keep W H [] c acc = (acc, λ u v. refl)
 all-keep W H (i ∷ is) c acc =
@@ -305,7 +342,8 @@ refinement-moves-no-reading W H c is acc =
       k .0,
       λ u v on. (
         k .1 u v,
-        subst (λ n. Bracketed W H (c .tree) (c .numbers) u v n) (sym (k .1 u v)) (bracketed-readings W H (c .tree) (c .numbers) acc u v on),
+        subst (λ n. Bracketed W H (c .tree) (c .numbers) u v n) (sym (k .1 u v))
+            (bracketed-readings W H (c .tree) (c .numbers) acc u v on),
       ),
     )
 
@@ -313,7 +351,8 @@ refinement-moves-no-reading W H c is acc =
 pub insertion-raises : InsertionRaises
 insertion-raises W H c i n e q r hq hr =
     step-cases W H c i
-    (λ d. levels (d .tree) q r ≡ cond (inBox (i .box) q r) (max (levels (c .tree) q r) (i .level)) (levels (c .tree) q r))
+    (λ d. levels (d .tree) q r ≡ cond (inBox (i .box) q r) (max (levels (c .tree) q r) (i .level))
+    (levels (c .tree) q r))
     (λ m f. absurd (let z : _≡_ {A = ℕ} 0 1 = cc in omega arith))
     (λ k. let a = accepted W H (c .tree) (c .numbers) (i .box) (i .level) (i .treeOut) (i .numbersOut) k in
     let s = sound W H (c .tree) (c .numbers) (a .0) in

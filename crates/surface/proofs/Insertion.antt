@@ -17,7 +17,8 @@ use Rattle.surface.specs.Carry.{raised, carried, carriedOver}
 use Rattle.surface.specs.Table.{levels, slots, coefficients, sliceOf, limit, Acceptable, tableReading}
 use Rattle.surface.specs.Calls.{newLevels, newTree, newCoefficients, boxCause}
 use Rattle.surface.proofs.TreeBytes.{parse-bytes}
-use Rattle.surface.proofs.TreeLevels.{levelAt-regionTree, regionTree-ext, regionTree-wellFormed, levelAt-le, levelAt-beyond}
+use Rattle.surface.proofs.TreeLevels.{levelAt-regionTree, regionTree-ext, regionTree-wellFormed, levelAt-le}
+use Rattle.surface.proofs.TreeLevels.{levelAt-beyond}
 use Rattle.surface.proofs.Least.{both, pick, lts-true, lts-intro, leastUnder-cong, leastUnder-raise}
 use Rattle.surface.proofs.TableLaws.{Formed, good-side, levels-of, Sound, slice-length, slice-coefficient}
 use Rattle.surface.proofs.Carried.{carried-own}
@@ -51,7 +52,8 @@ module _ (W H : ℕ) (t : List ℕ) (f : Formed W H t) (hW : W ≤ 8) (hH : H �
   old-le q r = rw (levels-of W H t f q r) (levelAt-le W H 5 0 0 (f .tree) q r (f .shape))
 
   new-le : (q r : ℕ) → newLevels t box n q r ≤ 3
-  new-le q r = pick (inBox box q r) (λ b. cond b (max (levels t q r) n) (levels t q r) ≤ 3) (λ _. omega (arith, old-le q r)) (λ _. old-le q r)
+  new-le q r = pick (inBox box q r) (λ b. cond b (max (levels t q r) n) (levels t q r) ≤ 3)
+      (λ _. omega (arith, old-le q r)) (λ _. old-le q r)
 
   -- beyond the sheet the old level is 0, and the box does not reach there
   new-beyond : (q r : ℕ) → q < 32 → r < 32 → (quarters W ≤ q) ⊎ (quarters H ≤ r) → newLevels t box n q r ≡ 0
@@ -95,7 +97,8 @@ module _ (W H : ℕ) (t : List ℕ) (f : Formed W H t) (hW : W ≤ 8) (hH : H �
       (λ q r h. clipped-cases (λ l. l ≡ 0) q r (λ hq hr. new-beyond q r hq hr (inr h)) refl)) in
       record {
         tree = newRegions;
-        whole = subst (λ l. parse 5 l ≡ found newRegions []) (append-nil (bytes newRegions)) (parse-bytes W H 5 0 0 newRegions [] shape);
+        whole = subst (λ l. parse 5 l ≡ found newRegions []) (append-nil (bytes newRegions))
+            (parse-bytes W H 5 0 0 newRegions [] shape);
         shape = shape;
       }
 
@@ -109,7 +112,8 @@ module _ (W H : ℕ) (t : List ℕ) (f : Formed W H t) (hW : W ≤ 8) (hH : H �
 
 -- a coefficient within its limit, in units of level 3, is at most 32,000×64^3 in size, and the other way round
 limit-scaled : (n L : ℕ) → n + L ≡ 3 → 64 ^ n * limit L ≡ limit 3
-limit-scaled n L e = mul-left-comm (64 ^ n) 32000 (64 ^ L) ∙ ap (λ k. 32000 * k) (sym (pow-add 64 n L) ∙ ap (λ k. 64 ^ k) e)
+limit-scaled n L e = mul-left-comm (64 ^ n) 32000 (64 ^ L) ∙ ap (λ k. 32000 * k)
+    (sym (pow-add 64 n L) ∙ ap (λ k. 64 ^ k) e)
 
 pub scaled-between : (n L : ℕ) (z : ℤ) → n + L ≡ 3 → natAbs z ≤ limit L
     → Between (negℤ (pos (limit 3))) (pos (64 ^ n) *ℤ z) (pos (limit 3))
@@ -117,7 +121,8 @@ scaled-between n L z e h =
     let b = abs-le z h in
     let m = limit-scaled n L e in (
       subst (λ k. negℤ (pos k) ≤ℤ (pos (64 ^ n) *ℤ z)) m
-          (subst (λ k. k ≤ℤ (pos (64 ^ n) *ℤ z)) (mul-neg (pos (64 ^ n)) (pos (limit L))) (scale-mono (64 ^ n) (b .0))),
+          (subst (λ k. k ≤ℤ (pos (64 ^ n) *ℤ z)) (mul-neg (pos (64 ^ n)) (pos (limit L)))
+          (scale-mono (64 ^ n) (b .0))),
       subst (λ k. (pos (64 ^ n) *ℤ z) ≤ℤ pos k) m (scale-mono (64 ^ n) (b .1)),
     )
 
@@ -155,10 +160,15 @@ carried-fits W H t cs s L a b hL ha hb = go (decLe (leastUnder W H (levels t) L 
     own zero h = unfold carried in refl
     own (suc M) h = carried-own W H (levels t) (coefficients W H cs) M a b (omega arith)
 
-    go : Dec (leastUnder W H (levels t) L a b ≤ L) → natAbs (carried W H (levels t) (coefficients W H cs) L a b) ≤ limit L
+    go : Dec (leastUnder W H (levels t) L a b ≤ L) → natAbs (carried W H (levels t) (coefficients W H cs) L a b) ≤
+        limit L
     go (yes h) = carried-limit W H t cs s L a b hL ha hb h
     go (no h) =
-        rw (own L (omega arith), s .passive L a b hL ha hb (ne-eqb (leastUnder W H (levels t) L a b) L (λ e. h (omega arith))))
+        rw (
+          own L (omega arith),
+          s .passive L a b hL ha hb
+              (ne-eqb (leastUnder W H (levels t) L a b) L (λ e. h (omega arith))),
+        )
         (omega arith)
 
 module _ (W H : ℕ) (t : List ℕ) (cs : List ℤ) (s : Sound W H t cs) (box : Box) (n : ℕ) (hn : n ≤ 3)
@@ -202,7 +212,8 @@ module _ (W H : ℕ) (t : List ℕ) (cs : List ℤ) (s : Sound W H t cs) (box : 
             subst (λ z. natAbs z ≤ limit L)
             (sym (new-coefficient L a b hL ha hb
             ∙ carriedOver-active W H (levels t) new rise (coefficients W H cs) L a b e))
-            (carried-limit W H t cs s L a b hL ha hb (le-trans (leastUnder-raise W H (levels t) new rise L a b) (le-of-eq e)));
+            (carried-limit W H t cs s L a b hL ha hb
+            (le-trans (leastUnder-raise W H (levels t) new rise L a b) (le-of-eq e)));
         passive = λ L a b hL ha hb act. new-coefficient L a b hL ha hb ∙ rw act;
       }
 

@@ -2,7 +2,8 @@
 use mathlib.Core.Path.{_≡_, refl, sym, ap, _∙_, subst}
 use mathlib.Core.Bool.{Bool, true, false, _&&_, cond}
 use Prim.Native.Nat.{ℕ, zero, suc, _+_, _-_, _*_, _≤_, _<_, min}
-use native.Mathlib.Nat.{le-refl, le-trans, min-le-left, min-le-right, le-min, le-of-eq, le-antisymm, lt-suc-self, le-step, mul-le-mul-right}
+use native.Mathlib.Nat.{le-refl, le-trans, min-le-left, min-le-right, le-min, le-of-eq, le-antisymm, lt-suc-self}
+use native.Mathlib.Nat.{le-step, mul-le-mul-right}
 use native.Mathlib.Nat.{mul-assoc, mul-comm, add-mul}
 use native.Mathlib.Decide.{decLt}
 use native.Mathlib.Omega.{arith}
@@ -99,7 +100,8 @@ module _ (n L : ℕ) (l : L < 3) (a c : ℕ) (w : 0 < weight a c) where
   low-ends : (x : ℕ) → a * (2 * x) ≤ c * x + 3 * x
   low-ends x =
       subst (λ t. t ≤ c * x + 3 * x) (mul-comm x (2 * a) ∙ ap (λ t. t * x) (mul-comm 2 a) ∙ mul-assoc a 2 x)
-      (subst (λ t. x * (2 * a) ≤ t) (mul-comm x (c + 3) ∙ add-mul c 3 x) (native.Mathlib.Nat.mul-le-mul-left x (weight-parent a c w .0)))
+      (subst (λ t. x * (2 * a) ≤ t) (mul-comm x (c + 3) ∙ add-mul c 3 x)
+      (native.Mathlib.Nat.mul-le-mul-left x (weight-parent a c w .0)))
 
   high-ends : (x : ℕ) → (c + 1) * x ≤ (a + 1) * (2 * x)
   high-ends x =

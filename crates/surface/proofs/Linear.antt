@@ -51,4 +51,5 @@ reading-cong W H lev f g h u v =
     λ L hL. sum2-cong (functions W L) (functions H L)
     (λ a b. cond (active W H lev L a b) (f L a b *ℤ truncated W H lev u v (3 - L) L a b) (pos 0))
     (λ a b. cond (active W H lev L a b) (g L a b *ℤ truncated W H lev u v (3 - L) L a b) (pos 0))
-    λ a b ha hb. ap (λ t. cond (active W H lev L a b) (t *ℤ truncated W H lev u v (3 - L) L a b) (pos 0)) (h L a b hL ha hb)
+    λ a b ha hb. ap (λ t. cond (active W H lev L a b) (t *ℤ truncated W H lev u v (3 - L) L a b) (pos 0))
+    (h L a b hL ha hb)

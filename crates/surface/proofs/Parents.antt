@@ -13,18 +13,21 @@ use Rattle.surface.specs.Sheet.{cells, functions}
 use Rattle.surface.specs.Truncation.{weight, weight2}
 use Rattle.surface.specs.Patch.{stencil}
 use Rattle.surface.proofs.SplineWeight.{weight-even-0, weight-even-1, weight-even-low, weight-even-high}
-use Rattle.surface.proofs.SplineWeight.{weight-odd-0, weight-odd-1, weight-odd-2, weight-odd-low, weight-odd-high}
+use Rattle.surface.proofs.SplineWeight.{weight-odd-0, weight-odd-1, weight-odd-2, weight-odd-low}
+use Rattle.surface.proofs.SplineWeight.{weight-odd-high}
 
 pub functions-step : (n L : ℕ) → functions n (suc L) + 3 ≡ 2 * functions n L
 functions-step n L =
-    let e : n * 2 ^ suc L ≡ 2 * (n * 2 ^ L) = ap (λ t. n * t) (pow-succ' 2 L) ∙ mul-left-comm n 2 (2 ^ L) in omega arith
+    let e : n * 2 ^ suc L ≡ 2 * (n * 2 ^ L) = ap (λ t. n * t) (pow-succ' 2 L) ∙ mul-left-comm n 2 (2 ^ L) in omega
+    arith
 
 -- a number is even or odd
 pub parity : (c : ℕ) → ((m : ℕ) × (c ≡ 2 * m)) ⊎ ((m : ℕ) × (c ≡ 2 * m + 1))
 parity zero = inl (0, refl)
 parity (suc c) = go (parity c)
   where
-    go : ((m : ℕ) × (c ≡ 2 * m)) ⊎ ((m : ℕ) × (c ≡ 2 * m + 1)) → ((m : ℕ) × (suc c ≡ 2 * m)) ⊎ ((m : ℕ) × (suc c ≡ 2 * m + 1))
+    go : ((m : ℕ) × (c ≡ 2 * m)) ⊎ ((m : ℕ) × (c ≡ 2 * m + 1)) → ((m : ℕ) × (suc c ≡ 2 * m)) ⊎
+        ((m : ℕ) × (suc c ≡ 2 * m + 1))
     go (inl (m, e)) = inr (m, omega arith)
     go (inr (m, e)) = inl (m + 1, omega arith)
 

@@ -34,7 +34,8 @@ stencil-inside c i hc hi w = go (ℕ-discrete (c % 2) 0) (ℕ-discrete i 2)
     go (no e) f = omega arith
 
 -- a child's parents by its place in the finer patch: c′ is the finer cell, c the coarser
-shifted : (c c′ h k : ℕ) → h ≤ 1 → c′ ≡ 2 * c + h → ((c′ + k) % 2 ≡ (c′ % 2 + k) % 2) × ((c′ + k) / 2 ≡ c + (c′ % 2 + k) / 2)
+shifted : (c c′ h k : ℕ) → h ≤ 1 → c′ ≡ 2 * c + h → ((c′ + k) % 2 ≡ (c′ % 2 + k) % 2) ×
+    ((c′ + k) / 2 ≡ c + (c′ % 2 + k) / 2)
 shifted c c′ h k l e = (omega arith, omega arith)
 
 -- of a level's splines along a direction only the four of the point's cell are not 0
@@ -87,13 +88,15 @@ module _ (W H : ℕ) (lev : ℕ → ℕ → ℕ) (coef : ℕ → ℕ → ℕ →
       (λ i j. pos (stencil (cu (suc L) + k) i * stencil (cv (suc L) + l) j)
       *ℤ carried W H lev coef L ((cu (suc L) + k) / 2 + i) ((cv (suc L) + l) / 2 + j))
       (λ i j hi hj. rw (eu .0, ev .0, eu .1, ev .1, add-assoc (cu L) (g / 2) i, add-assoc (cv L) (h / 2) j))
-      ∙ sym (parents2 W H L (cu (suc L) + k) (cv (suc L) + l) (omega arith) (omega arith) (λ c d. carried W H lev coef L c d))
+      ∙ sym (parents2 W H L (cu (suc L) + k) (cv (suc L) + l) (omega arith) (omega arith)
+      (λ c d. carried W H lev coef L c d))
 
   pub patch-carried : (L : ℕ) → L ≤ 3 → Same L
   unfolding patch carried
   patch-carried zero hL k l hk hl = refl
   patch-carried (suc L) hL k l hk hl =
-      ap (λ t. cond (inRegion W H lev (suc L) (cu (suc L) + k) (cv (suc L) + l)) (coef (suc L) (cu (suc L) + k) (cv (suc L) + l)) t)
+      ap (λ t. cond (inRegion W H lev (suc L) (cu (suc L) + k) (cv (suc L) + l))
+      (coef (suc L) (cu (suc L) + k) (cv (suc L) + l)) t)
       (subdivided-parents L hL (patch-carried L (omega arith)) k l hk hl)
 
   -- the exact reading is the patch's evaluation

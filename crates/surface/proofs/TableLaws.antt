@@ -88,8 +88,13 @@ module _ (W H : ℕ) (f : ℕ → ℕ → ℕ → ℤ) where
   slice-from-length zero L = rw (zero-add L, add-zero (start W H L))
   slice-from-length (suc n) L =
       rw (suc-add n L, ← add-suc n L)
-      (omega
-      (arith, slice-from-length n (suc L), length-append (part L) (sliceFrom W H f (suc L) n), part-length L, start-step W H L))
+      (omega (
+        arith,
+        slice-from-length n (suc L),
+        length-append (part L) (sliceFrom W H f (suc L) n),
+        part-length L,
+        start-step W H L,
+      ))
 
   pub slice-length : length (sliceOf W H f) ≡ slots W H
   unfolding start
@@ -110,7 +115,8 @@ module _ (W H : ℕ) (f : ℕ → ℕ → ℕ → ℤ) where
       → getD (sliceFrom W H f L (suc n)) (places W H L + p) (pos 0) ≡ getD (sliceFrom W H f (suc L) n) p (pos 0)
   unfolding sliceFrom
   past-part n L p =
-      subst (λ t. getD (part L ++ sliceFrom W H f (suc L) n) (t + p) (pos 0) ≡ getD (sliceFrom W H f (suc L) n) p (pos 0))
+      subst (λ t. getD (part L ++ sliceFrom W H f (suc L) n) (t + p) (pos 0) ≡ getD (sliceFrom W H f (suc L) n) p
+      (pos 0))
       (part-length L) (getD-append-add (part L) (sliceFrom W H f (suc L) n) p (pos 0))
 
   -- a place p of level M = k + L, counted from where level L starts
@@ -123,7 +129,8 @@ module _ (W H : ℕ) (f : ℕ → ℕ → ℕ → ℤ) where
       rw (first, same) (in-part n M a b ha hb)
   at-place (suc k) (suc n) L M p a b m h ha hb e =
       let next : k + suc L ≡ M = omega arith in
-      let mono : start W H (suc L) ≤ start W H M = subst (λ t. start W H (suc L) ≤ start W H t) next (start-mono W H k (suc L)) in
+      let mono : start W H (suc L) ≤ start W H M = subst (λ t. start W H (suc L) ≤ start W H t) next
+      (start-mono W H k (suc L)) in
       let later : p ≡ places W H L + (p - places W H L) = omega (arith, start-step W H L) in
       ap (λ t. getD (sliceFrom W H f L (suc n)) t (pos 0)) later
       ∙ past-part n L (p - places W H L)
@@ -150,12 +157,14 @@ place-in-slice W H L a b hL ha hb =
 -- ---- tests at each function
 
 module _ (W H : ℕ) (p : ℕ → ℕ → ℕ → Bool) where
-  pub everywhere-true : everywhere W H p ≡ true → (L a b : ℕ) → L < 4 → a < functions W L → b < functions H L → p L a b ≡ true
+  pub everywhere-true : everywhere W H p ≡ true → (L a b : ℕ) → L < 4 → a < functions W L → b < functions H L → p L
+      a b ≡ true
   everywhere-true e L a b hL ha hb =
       every2-true (functions W L) (functions H L) (p L)
       (every-true 4 (λ L. every2 (functions W L) (functions H L) (λ a b. p L a b)) e L hL) a b ha hb
 
-  pub everywhere-intro : ((L a b : ℕ) → L < 4 → a < functions W L → b < functions H L → p L a b ≡ true) → everywhere W H p ≡ true
+  pub everywhere-intro : ((L a b : ℕ) → L < 4 → a < functions W L → b < functions H L → p L a b ≡ true) → everywhere
+      W H p ≡ true
   everywhere-intro h =
       every-intro 4 (λ L. every2 (functions W L) (functions H L) (λ a b. p L a b))
       (λ L hL. every2-intro (functions W L) (functions H L) (p L) (λ a b ha hb. h L a b hL ha hb))
@@ -216,7 +225,8 @@ sound W H t cs e =
       limits = λ L a b hL ha hb p.
           leb-true (natAbs (coefficients W H cs L a b)) (limit L)
           (when-active (active W H (levels t) L a b) (leb (natAbs (coefficients W H cs L a b)) (limit L))
-          (everywhere-true W H (λ L a b. not (active W H (levels t) L a b) || leb (natAbs (coefficients W H cs L a b)) (limit L))
+          (everywhere-true W H (λ L a b. not (active W H (levels t) L a b) || leb
+          (natAbs (coefficients W H cs L a b)) (limit L))
           good4 L a b hL ha hb) p);
       passive = λ L a b hL ha hb p.
           zero-of-abs (coefficients W H cs L a b)
@@ -242,7 +252,8 @@ acceptable W H t cs s =
     (none-cause 3 (eqb (length cs) (slots W H)) (eq-eqb (length cs) (slots W H) (s .size)))
     (none-orElse c4 c5
     (none-cause 4 (withinLimits W H (levels t) (coefficients W H cs))
-    (everywhere-intro W H (λ L a b. not (active W H (levels t) L a b) || leb (natAbs (coefficients W H cs L a b)) (limit L))
+    (everywhere-intro W H (λ L a b. not (active W H (levels t) L a b) || leb (natAbs (coefficients W H cs L a b))
+    (limit L))
     (λ L a b hL ha hb. active-when (active W H (levels t) L a b) (leb (natAbs (coefficients W H cs L a b)) (limit L))
     (λ p. le-leb (natAbs (coefficients W H cs L a b)) (limit L) (s .limits L a b hL ha hb p)))))
     (none-cause 5 (passiveZero W H (levels t) (coefficients W H cs))

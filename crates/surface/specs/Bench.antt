@@ -80,12 +80,14 @@ pub record BenchSheet : Type 0 where
 
 -- ---- a case of three levels, which the bench sheet has not: "Truncating against the next level only" would show here
 
--- 1 by 1, level 1 but for the four quarter squares in the middle, which have level 3. No level 2 function's support lies
+-- 1 by 1, level 1 but for the four quarter squares in the middle, which have level 3. No level 2 function's support
+-- lies
 -- among those four, and one of level 3 does.
 abbrev pub islet : ℕ → ℕ → ℕ
 islet q r = cond (leb 1 q && ltb q 3 && (leb 1 r && ltb r 3)) 3 1
 
--- Function (−1, −1) of level 1, truncated, in the middle: 579,820,584,960 over 36×64^6, from an evaluator by fractions.
+-- Function (−1, −1) of level 1, truncated, in the middle: 579,820,584,960 over 36×64^6, from an evaluator by
+-- fractions.
 -- (Untruncated, and truncated against level 2 only, it is 2^40 there.)
 abbrev pub ThreeLevels : Type 0
 ThreeLevels = truncated 1 1 islet 64 64 2 1 2 2 ≡ pos 579820584960

@@ -1,4 +1,5 @@
--- Document 01, "Calls and what they decline": the whole outcome of each call on every input, as the answer and what each
+-- Document 01, "Calls and what they decline": the whole outcome of each call on every input, as the answer and what
+-- each
 -- lent buffer then holds. File reading is in TableFile.
 use mathlib.Core.Bool.{Bool, true, false, not, _&&_, _||_, cond}
 use mathlib.Core.List.{List, [], _∷_, _++_}

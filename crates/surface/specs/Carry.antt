@@ -11,7 +11,8 @@ use Rattle.surface.specs.Truncation.{weight2}
 abbrev pub raised : (ℕ → ℕ → ℕ) → Box → ℕ → ℕ → ℕ → ℕ
 raised lev box n q r = cond (inBox box q r) (max (lev q r) n) (lev q r)
 
--- "let the carried value of a function be its own coefficient when active, and the two-scale sum of its parents' carried
+-- "let the carried value of a function be its own coefficient when active, and the two-scale sum of its parents'
+-- carried
 -- values when the least old level under it is below its own". In units of 1/64^L watt the weights over 8 need no
 -- division. Where the least level is above the function's own the document gives no value; this one takes the
 -- coefficient there too, and nothing depends on it.

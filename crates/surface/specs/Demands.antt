@@ -19,8 +19,10 @@ use Rattle.surface.specs.Calls.{Answer, refused, gives, Written, insertO
 
 -- ---- demand 2: "A function is active exactly when the selection rule of source document 003 makes it so."
 
--- supp⁰ β ⊆ Ω^l of document 003. All edges of supports and regions are edges of level 3 cells, so a set of points is the
--- set of its level 3 cells: each cell (x, y) of the cut support of function (a, b) of level L lies in a quarter square of
+-- supp⁰ β ⊆ Ω^l of document 003. All edges of supports and regions are edges of level 3 cells, so a set of points is
+-- the
+-- set of its level 3 cells: each cell (x, y) of the cut support of function (a, b) of level L lies in a quarter
+-- square of
 -- level l or above.
 abbrev pub SupportIn : ℕ → ℕ → (ℕ → ℕ → ℕ) → ℕ → ℕ → ℕ → ℕ → Type 0
 SupportIn W H lev l L a b =
@@ -38,7 +40,8 @@ SelectionRule =
 
 -- ---- demand 2: "A box insertion raises lower levels inside the box to the one named, and changes no others."
 
--- What an insertion was lent: "In demand 3's list every insertion has its own box, level and outputs, whatever those are".
+-- What an insertion was lent: "In demand 3's list every insertion has its own box, level and outputs, whatever those
+-- are".
 pub record Insertion : Type 0 where
   pub box : Box
   pub level : ℕ
@@ -81,7 +84,8 @@ OneTree =
 
 -- ---- demand 3: linearity, of tables that "share one sheet and one set of regions"
 
--- "at every place the first's coefficient is a times the second's plus b times the third's, a and b whole. Then at every
+-- "at every place the first's coefficient is a times the second's plus b times the third's, a and b whole. Then at
+-- every
 -- point the first's exact reading is a times the second's plus b times the third's."
 abbrev pub LinearReadings : Type 0
 LinearReadings =
@@ -92,7 +96,8 @@ LinearReadings =
     → (u v : ℕ) → onSheet W H u v ≡ true
     → tableReading W H t₁ c₁ u v ≡ a *ℤ tableReading W H t₂ c₂ u v +ℤ b *ℤ tableReading W H t₃ c₃ u v
 
--- ---- demand 3: "each exact reading lies between the least and the greatest active coefficient, in watts, whose support
+-- ---- demand 3: "each exact reading lies between the least and the greatest active coefficient, in watts, whose
+-- support
 -- holds the point"
 
 -- An active function whose support holds the point.
@@ -109,7 +114,8 @@ pub record Around (W H : ℕ) (t : List ℕ) (u v : ℕ) : Type 0 where
 abbrev pub coefficientOf : (W H : ℕ) (t : List ℕ) (cs : List ℤ) (u v : ℕ) → Around W H t u v → ℤ
 coefficientOf W H t cs u v f = coefficients W H cs (f .L) (f .a) (f .b)
 
--- "Exact readings are compared as numerators over D; a level L coefficient c counts as c/64^L watt": of the two functions
+-- "Exact readings are compared as numerators over D; a level L coefficient c counts as c/64^L watt": of the two
+-- functions
 -- one's coefficient is at most the reading n/D, and the other's at least.
 pub record Bracketed (W H : ℕ) (t : List ℕ) (cs : List ℤ) (u v : ℕ) (n : ℤ) : Type 0 where
   pub low : Around W H t u v

@@ -1,5 +1,6 @@
 -- Document 01, "The sheet and its grids" and "Functions and coefficients": supports cut to the sheet, the quarter
--- squares under them, and which functions are active. The regions are given by lev, the level of quarter square (q, r).
+-- squares under them, and which functions are active. The regions are given by lev, the level of quarter square (q,
+-- r).
 use mathlib.Core.Bool.{Bool, _&&_, cond}
 use Prim.Native.Nat.{ℕ, suc, _+_, _-_, _*_, min}
 use lib.Dec.{leb, ltb, eqb}

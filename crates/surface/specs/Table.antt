@@ -1,4 +1,5 @@
--- Document 01, "Functions and coefficients" and "Calls and what they decline": the places of the coefficients in the lent
+-- Document 01, "Functions and coefficients" and "Calls and what they decline": the places of the coefficients in the
+-- lent
 -- slice, and when a table (a sheet, a tree and a coefficient slice) is acceptable.
 use mathlib.Core.Path.{_≡_}
 use mathlib.Core.Bool.{Bool, true, false, not, _&&_, _||_}

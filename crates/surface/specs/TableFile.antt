@@ -1,4 +1,5 @@
--- Document 01, "The table file": what loading a file gives, judged in byte order: "whole head, tag, length, whole body,
+-- Document 01, "The table file": what loading a file gives, judged in byte order: "whole head, tag, length, whole
+-- body,
 -- contents; after the last field 15, 16, 17".
 use mathlib.Core.Bool.{Bool, true, false, not, _&&_, cond}
 use mathlib.Core.List.{List, [], _∷_, _++_}
