@@ -14,19 +14,18 @@ use Rattle.finite.specs.Range.{sum, every, count, total, least, tableFrom, rows
 use Rattle.finite.proofs.Order.{scale-reflects, ≤ℤ-antisym}
 use Rattle.finite.proofs.Tests.{count-all, total-const}
 use Rattle.surface.specs.Sheet.{eighths, functions, onSheet}
-use Rattle.surface.specs.Quadtree.{bytes, parse, wellFormed, levelAt, regionTree, visits}
+use Rattle.surface.specs.Quadtree.{parse, wellFormed, levelAt}
 use Rattle.surface.specs.Support.{shares, leastUnder, active}
-use Rattle.surface.specs.Spline.{cellOf, piece, splineAt}
-use Rattle.surface.specs.Truncation.{D, weight, truncated}
-use Rattle.surface.specs.Carry.{carried}
+use Rattle.surface.specs.Spline.{cellOf, piece}
+use Rattle.surface.specs.Truncation.{D}
 use Rattle.surface.specs.Patch.{patch, patchReading}
 use Rattle.surface.specs.Table.{levels, start, coefficients, sliceFrom, withinLimits, passiveZero, regionCause}
 use Rattle.surface.specs.Table.{tableCause, Acceptable, tableReading}
-use Rattle.surface.specs.Calls.{Answer, gives, answer, newTree, newCoefficients, insertCause, insertOutcome}
-use Rattle.surface.specs.Calls.{leastOutcome, readingCause, exactOutcome}
+use Rattle.surface.specs.Calls.{gives, readingCause, exactOutcome}
 use Rattle.surface.specs.TableFile.{activeInRow, activeCount}
 use Rattle.surface.specs.Demands.{Around, Bracketed}
-use Rattle.surface.specs.Bench.{refined, S, flat, single, level700, BenchSheet, ThreeLevels}
+use Rattle.surface.specs.Bench.{refined, S, flat, single, level700, BenchSheet}
+use Rattle.surface.specs.Computed.{inserted, visited, two-by-one, trees, edges}
 use Rattle.surface.proofs.Least.{leastUnder-le-3, le-leastWhere}
 use Rattle.surface.proofs.TableLaws.{slice-coefficient, none-orElse}
 use Rattle.surface.proofs.PatchReading.{patch-reading}
@@ -96,34 +95,21 @@ level3-count =
 -- ---- the table
 
 pub bench-sheet : BenchSheet
-unfolding readingCause tableCause regionCause withinLimits passiveZero every leastUnder least eighths levels levelAt
-    parse
-    wellFormed start sliceFrom coefficients tableFrom rowsFrom patchReading patch sum cellOf piece insertOutcome
-    insertCause
-    newTree newCoefficients bytes regionTree carried weight activeCount activeInRow total count leastOutcome visits
-    exactOutcome
+unfolding readingCause tableCause regionCause withinLimits passiveZero every leastUnder least eighths levels levelAt parse
+    wellFormed start sliceFrom coefficients tableFrom rowsFrom patchReading patch sum cellOf piece
 bench-sheet =
     record {
       slope = read S 64 5 (pos 79164837199872000) refl (lit≤ tt) (lit≤ tt) refl;
-      corner = read (single 0 0) 0 0 (pos (2 ^ 42)) refl (lit≤ tt) (lit≤ tt) refl;
-      farCorner = read (single 0 0) 128 128 (pos 0) refl (lit≤ tt) (lit≤ tt) refl;
-      next = read (single 1 1) 0 0 (pos (2 ^ 46)) refl (lit≤ tt) (lit≤ tt) refl;
-      inserted = refl;
-      insertedActive = refl;
-      visited = refl;
-      twoByOne0 = refl;
-      twoByOne1 = refl;
-      visitedBoth = refl;
+      corners = (
+        read (single 0 0) 0 0 (pos (2 ^ 42)) refl (lit≤ tt) (lit≤ tt) refl,
+        read (single 0 0) 128 128 (pos 0) refl (lit≤ tt) (lit≤ tt) refl,
+      );
+      nextCorner = read (single 1 1) 0 0 (pos (2 ^ 46)) refl (lit≤ tt) (lit≤ tt) refl;
+      inserted = inserted;
+      visited = visited;
+      twoByOne = two-by-one;
       equal = level700-outcome;
       finest = level3-count;
-      unmerged = refl;
-      beyond = refl;
-      whole = refl;
-      lastPoint = read S 128 5 (pos (1000 * D)) refl (lit≤ tt) (lit≤ tt) refl;
-      pastPoint = refl;
-      pastBox = refl;
+      trees = trees;
+      edges = edges;
     }
-
-pub three-levels : ThreeLevels
-unfolding truncated sum leastUnder least eighths weight splineAt cellOf piece
-three-levels = refl

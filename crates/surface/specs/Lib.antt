@@ -11,3 +11,4 @@ pub mod FloatReading
 pub mod TableFile
 pub mod Demands
 pub mod Bench
+pub mod Computed
