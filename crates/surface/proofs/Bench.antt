@@ -2,17 +2,19 @@
 -- thousands of
 -- functions, by the laws first.
 use mathlib.Core.Path.{_≡_, refl, sym, ap, _∙_, subst}
-use mathlib.Core.Bool.{true, _&&_, cond}
+use mathlib.Core.Bool.{Bool, true, false, not, _&&_, _||_, cond}
 use mathlib.Core.List.{List, [], _∷_, _++_}
 use Prim.Native.Nat.{ℕ, _+_, _*_, _^_, _≤_, _<_}
 use native.Mathlib.Nat.{le-refl, le-antisymm, one-le-pow, mul-comm, mul-left-comm}
 use lib.IntN.{ℤ, pos, _*ℤ_}
-use lib.Dec.{lit<, lit≤}
-use lib.Signed.{_≤ℤ_}
+use lib.ListN.{length, replicate, getD-replicate, length-replicate}
+use lib.Seq.{ext-getD}
+use lib.Dec.{T, lit<, lit≤}
+use lib.Signed.{_≤ℤ_, leZ, leZ-yes}
 use borrow.Author.Tests.{eq-eqb}
-use Rattle.finite.specs.Range.{sum, every, count, total, least, tableFrom, rowsFrom}
+use Rattle.finite.specs.Range.{sum, every, least, tableFrom, rowsFrom, grid}
 use Rattle.finite.proofs.Order.{scale-reflects, ≤ℤ-antisym}
-use Rattle.finite.proofs.Tests.{count-all, total-const}
+use Rattle.finite.proofs.Table.{length-grid, getD-grid, place-split, grid-cong}
 use Rattle.surface.specs.Sheet.{eighths, functions, onSheet}
 use Rattle.surface.specs.Quadtree.{parse, wellFormed, levelAt}
 use Rattle.surface.specs.Support.{shares, leastUnder, active}
@@ -20,14 +22,13 @@ use Rattle.surface.specs.Spline.{cellOf, piece}
 use Rattle.surface.specs.Truncation.{D}
 use Rattle.surface.specs.Patch.{patch, patchReading}
 use Rattle.surface.specs.Table.{levels, start, coefficients, sliceFrom, withinLimits, passiveZero, regionCause}
-use Rattle.surface.specs.Table.{tableCause, Acceptable, tableReading}
-use Rattle.surface.specs.Calls.{gives, readingCause, exactOutcome}
-use Rattle.surface.specs.TableFile.{activeInRow, activeCount}
+use Rattle.surface.specs.Table.{tableCause, everywhere, Acceptable, tableReading}
+use Rattle.surface.specs.Calls.{gives, activityBytes, activityCause, activityOutcome, readingCause, exactOutcome}
 use Rattle.surface.specs.Demands.{Around, Bracketed}
-use Rattle.surface.specs.Bench.{refined, S, flat, single, level700, BenchSheet}
-use Rattle.surface.specs.Computed.{inserted, visited, two-by-one, trees, edges}
-use Rattle.surface.proofs.Least.{leastUnder-le-3, le-leastWhere}
-use Rattle.surface.proofs.TableLaws.{slice-coefficient, none-orElse}
+use Rattle.surface.specs.Bench.{refined, S, flat, first, second, level700, Equal, Finest, BenchSheet}
+use Rattle.surface.specs.Computed.{inserted, visited, two-by-one, trees, past}
+use Rattle.surface.proofs.Least.{both, leastUnder-le-3, le-leastWhere}
+use Rattle.surface.proofs.TableLaws.{everywhere-true, when-active}
 use Rattle.surface.proofs.PatchReading.{patch-reading}
 use Rattle.surface.proofs.Demands.{bracketed-readings}
 
@@ -40,19 +41,39 @@ read cs u v n e hu hv r =
 
 -- ---- every active coefficient 700 watts
 
+-- a test of equality that computes
+eqZ : ℤ → ℤ → Bool
+eqZ x y = leZ x y && leZ y x
+
+eqZ-true : (x y : ℤ) → eqZ x y ≡ true → x ≡ y
+unfolding eqZ
+eqZ-true x y e =
+    let e2 = both (leZ x y) (leZ y x) e in
+    ≤ℤ-antisym (leZ-yes (subst T (sym (e2 .0)) tt)) (leZ-yes (subst T (sym (e2 .1)) tt))
+
 level700-acceptable : Acceptable 2 1 refined level700
 unfolding tableCause regionCause withinLimits passiveZero every leastUnder least eighths levels levelAt parse
-    wellFormed start
-    sliceFrom coefficients tableFrom rowsFrom
+    wellFormed
+    start coefficients
 level700-acceptable = refl
 
--- an active coefficient of level L is 700×64^L
+-- each active coefficient of level L is 700×64^L, each other 0
+level700-test : everywhere 2 1
+    (λ L a b. not (active 2 1 (levels refined) L a b) || eqZ (coefficients 2 1 level700 L a b) (pos (700 * 64 ^ L)))
+    ≡ true
+unfolding every leastUnder least eighths levels levelAt parse start coefficients eqZ
+level700-test = refl
+
 level700-at : (u v : ℕ) (f : Around 2 1 refined u v)
     → coefficients 2 1 level700 (f .L) (f .a) (f .b) ≡ pos (700 * 64 ^ (f .L))
 level700-at u v f =
-    slice-coefficient 2 1 (λ L a b. cond (active 2 1 (levels refined) L a b) (pos 700 *ℤ pos (64 ^ L)) (pos 0))
-    (f .L) (f .a) (f .b) (f .level) (f .alongU) (f .alongV)
-    ∙ rw (f .isActive)
+    eqZ-true (coefficients 2 1 level700 (f .L) (f .a) (f .b)) (pos (700 * 64 ^ (f .L)))
+    (when-active (active 2 1 (levels refined) (f .L) (f .a) (f .b))
+    (eqZ (coefficients 2 1 level700 (f .L) (f .a) (f .b)) (pos (700 * 64 ^ (f .L))))
+    (everywhere-true 2 1
+    (λ L a b. not (active 2 1 (levels refined) L a b) || eqZ (coefficients 2 1 level700 L a b) (pos (700 * 64 ^ L)))
+    level700-test (f .L) (f .a) (f .b) (f .level) (f .alongU) (f .alongV))
+    (f .isActive))
 
 -- 700×64^L over 64^L is 700
 level700-reading : (u v : ℕ) → onSheet 2 1 u v ≡ true → tableReading 2 1 refined level700 u v ≡ pos (700 * D)
@@ -72,7 +93,7 @@ level700-reading u v on =
         ap (λ x. pos D *ℤ x) (level700-at u v f)
         ∙ ap pos (ap (λ x. D * x) (mul-comm 700 (64 ^ (f .L))) ∙ mul-left-comm D (64 ^ (f .L)) 700)
 
-level700-outcome : (u v : ℕ) → onSheet 2 1 u v ≡ true → exactOutcome 2 1 refined level700 u v ≡ gives (pos (700 * D))
+level700-outcome : Equal
 unfolding exactOutcome readingCause
 level700-outcome u v on = rw (level700-acceptable, on, level700-reading u v on)
 
@@ -86,30 +107,47 @@ level3 a b =
     (le-leastWhere 8 8 3 (levels (3 ∷ [])) (λ q r. shares 8 3 a q && shares 8 3 b r) (le-refl 3)
     (λ q r hq hr e. le-refl 3)))
 
-level3-count : activeCount 8 8 (levels (3 ∷ [])) 3 ≡ 4489
-unfolding activeCount activeInRow
-level3-count =
-    total-const 67 67 (λ b. activeInRow 8 8 (levels (3 ∷ [])) 3 b)
-    (λ b h. count-all 67 (λ a. active 8 8 (levels (3 ∷ [])) 3 a b) (λ a l. level3 a b))
+-- a grid of one value is that value over and over
+grid-const : (n m x : ℕ) → grid n m (λ a b. x) ≡ replicate (m * n) x
+grid-const n m x =
+    ext-getD 0 (grid n m (λ a b. x)) (replicate (m * n) x)
+    (length-grid n m (λ a b. x) ∙ sym (length-replicate (m * n) x))
+    λ p h.
+    let l : p < m * n = subst (λ k. p < k) (length-grid n m (λ a b. x)) h in
+    let s = place-split n m p l in
+    ap (λ k. lib.ListN.getD (grid n m (λ a b. x)) k 0) (s .4)
+    ∙ getD-grid n m (λ a b. x) (s .0) (s .1) 0 (s .2) (s .3)
+    ∙ sym (getD-replicate (m * n) p x 0 l)
+
+level3-activity : Finest
+unfolding activityOutcome activityCause activityBytes regionCause parse wellFormed
+level3-activity out e =
+    let same : grid {A = ℕ} 67 67 (λ a b. cond (active 8 8 (levels (3 ∷ [])) 3 a b) 1 0) ≡ replicate 4489 1 =
+    grid-cong {A = ℕ} 67 67 (λ a b. cond (active 8 8 (levels (3 ∷ [])) 3 a b) 1 0) (λ a b. 1)
+    (λ a b ha hb. rw (level3 a b))
+    ∙ grid-const 67 67 1 in
+    rw (e, same)
 
 -- ---- the table
 
 pub bench-sheet : BenchSheet
-unfolding readingCause tableCause regionCause withinLimits passiveZero every leastUnder least eighths levels levelAt parse
-    wellFormed start sliceFrom coefficients tableFrom rowsFrom patchReading patch sum cellOf piece
+unfolding readingCause tableCause regionCause withinLimits passiveZero every leastUnder least eighths levels levelAt
+    parse
+    wellFormed start coefficients patchReading patch sum cellOf piece
 bench-sheet =
     record {
       slope = read S 64 5 (pos 79164837199872000) refl (lit≤ tt) (lit≤ tt) refl;
       corners = (
-        read (single 0 0) 0 0 (pos (2 ^ 42)) refl (lit≤ tt) (lit≤ tt) refl,
-        read (single 0 0) 128 128 (pos 0) refl (lit≤ tt) (lit≤ tt) refl,
+        read first 0 0 (pos (2 ^ 42)) refl (lit≤ tt) (lit≤ tt) refl,
+        read first 128 128 (pos 0) refl (lit≤ tt) (lit≤ tt) refl,
       );
-      nextCorner = read (single 1 1) 0 0 (pos (2 ^ 46)) refl (lit≤ tt) (lit≤ tt) refl;
+      nextCorner = read second 0 0 (pos (2 ^ 46)) refl (lit≤ tt) (lit≤ tt) refl;
       inserted = inserted;
       visited = visited;
       twoByOne = two-by-one;
       equal = level700-outcome;
-      finest = level3-count;
+      finest = level3-activity;
       trees = trees;
-      edges = edges;
+      lastPoint = read S 128 5 (pos (1000 * D)) refl (lit≤ tt) (lit≤ tt) refl;
+      past = past;
     }

@@ -182,7 +182,7 @@ pub record Sound (W H : ℕ) (t : List ℕ) (cs : List ℤ) : Type 0 where
       → active W H (levels t) L a b ≡ false → coefficients W H cs L a b ≡ pos 0
 
 -- a test that is only asked where another passes, or fails
-when-active : (t s : Bool) → (not t || s) ≡ true → t ≡ true → s ≡ true
+pub when-active : (t s : Bool) → (not t || s) ≡ true → t ≡ true → s ≡ true
 when-active true s e p = e
 when-active false s e p = absurd (subst T (sym p) tt)
 

@@ -1,4 +1,6 @@
--- The definitions at work: the bench cases that compute outright, so that a reader can hold them to document 01.
+-- The definitions at work: the bench cases that compute outright and the further ones, so that a reader can hold them
+-- to
+-- document 01.
 use mathlib.Core.Path.{_≡_, refl}
 use Rattle.finite.specs.Range.{sum, every, count, total, least, tableFrom, rowsFrom}
 use Rattle.surface.specs.Sheet.{eighths}
@@ -7,44 +9,104 @@ use Rattle.surface.specs.Support.{leastUnder}
 use Rattle.surface.specs.Spline.{cellOf, piece, splineAt}
 use Rattle.surface.specs.Truncation.{weight, truncated}
 use Rattle.surface.specs.Carry.{carried}
+use Rattle.surface.specs.Patch.{patch, patchReading}
 use Rattle.surface.specs.Table.{levels, start, coefficients, sliceFrom, withinLimits, passiveZero, regionCause}
 use Rattle.surface.specs.Table.{tableCause}
-use Rattle.surface.specs.Calls.{newTree, newCoefficients, insertCause, insertOutcome, leastOutcome, readingCause}
-use Rattle.surface.specs.Calls.{exactOutcome, wholeWatts}
-use Rattle.surface.specs.TableFile.{activeInRow, activeCount}
-use Rattle.surface.specs.Bench.{Inserted, Visited, TwoByOne, Trees, Edges, ThreeLevels, FarEdge, Rounded, Costs}
+use Rattle.surface.specs.Calls.{freshOutcome, newTree, newCoefficients, insertCause, insertOutcome, setCause}
+use Rattle.surface.specs.Calls.{setOutcome, activityBytes, activityCause, activityOutcome, leastOutcome}
+use Rattle.surface.specs.Calls.{readingCause, exactOutcome, displayOutcome, costOutcome, wholeWatts}
+use Rattle.surface.specs.TableFile.{field, activeInRow, activeCount, activeBefore, allWithin, levelFields}
+use Rattle.surface.specs.TableFile.{fileContents, fileOutcome}
+use Rattle.surface.specs.Bench.{Inserted, Visited, TwoByOne, Trees, Past}
+use Rattle.surface.specs.Cases.{ThreeLevels, InsideCell, FarEdge, Children, EastBox, LimitFirst, NewTree}
+use Rattle.surface.specs.Cases.{Activity}
+use Rattle.surface.specs.Cases.{Sets, Fresh, Declined, Rounded, Costs, Files, Heads}
 
-pub far-edge : FarEdge
-unfolding splineAt cellOf piece eighths
-far-edge = (refl, refl, refl, refl)
+-- ---- of the bench sheet
 
 pub trees : Trees
-unfolding regionCause parse wellFormed
+unfolding leastOutcome regionCause parse wellFormed levels levelAt least visits
 trees = (refl, refl, refl)
 
 pub visited : Visited
 unfolding leastOutcome regionCause parse wellFormed levels levelAt least visits
 visited = refl
 
+pub inserted : Inserted
+unfolding insertOutcome insertCause newTree newCoefficients bytes regionTree carried weight sum tableCause regionCause
+    withinLimits passiveZero every leastUnder least eighths levels levelAt parse wellFormed start sliceFrom
+    coefficients
+    tableFrom rowsFrom activityOutcome activityCause activityBytes
+inserted = (refl, refl)
+
 pub two-by-one : TwoByOne
-unfolding leastOutcome regionCause parse wellFormed levels levelAt least visits activeCount activeInRow total count leastUnder
-    eighths
-two-by-one = (refl, refl, refl)
+unfolding insertOutcome insertCause newTree newCoefficients bytes regionTree carried weight sum tableCause regionCause
+    withinLimits passiveZero every leastUnder least eighths levels levelAt parse wellFormed start sliceFrom
+    coefficients
+    tableFrom rowsFrom activityOutcome activityCause activityBytes leastOutcome visits
+two-by-one = (refl, refl, refl, refl)
+
+pub past : Past
+unfolding exactOutcome readingCause leastOutcome tableCause regionCause withinLimits passiveZero every leastUnder least
+    eighths levels levelAt parse wellFormed start sliceFrom coefficients tableFrom rowsFrom
+past = (refl, refl)
+
+-- ---- further cases
 
 pub three-levels : ThreeLevels
 unfolding truncated sum leastUnder least eighths weight splineAt cellOf piece
 three-levels = refl
 
-pub inserted : Inserted
-unfolding insertOutcome insertCause newTree newCoefficients bytes regionTree carried weight sum tableCause regionCause
-    withinLimits passiveZero every leastUnder least eighths levels levelAt parse wellFormed start sliceFrom coefficients
-    tableFrom rowsFrom activeCount activeInRow total count
-inserted = (refl, refl)
+pub inside-cell : InsideCell
+unfolding patchReading patch sum cellOf piece leastUnder least eighths levels levelAt parse coefficients start
+inside-cell = refl
 
-pub edges : Edges
-unfolding exactOutcome readingCause leastOutcome tableCause regionCause withinLimits passiveZero every leastUnder least eighths
-    levels levelAt parse wellFormed start sliceFrom coefficients tableFrom rowsFrom
-edges = (refl, refl, refl)
+pub far-edge : FarEdge
+unfolding splineAt cellOf piece eighths
+far-edge = (refl, refl, refl, refl)
+
+pub children : Children
+unfolding leastOutcome regionCause parse wellFormed levels levelAt least visits
+children = (refl, refl, refl)
+
+pub east-box : EastBox
+unfolding insertOutcome insertCause newTree bytes regionTree tableCause regionCause withinLimits passiveZero every
+    leastUnder
+    least eighths levels levelAt parse wellFormed start coefficients
+east-box = refl
+
+pub limit-first : LimitFirst
+unfolding exactOutcome readingCause tableCause regionCause withinLimits passiveZero every leastUnder least eighths
+    levels
+    levelAt parse wellFormed start coefficients
+limit-first = (refl, refl, refl, refl, refl, refl, refl)
+
+pub new-tree : NewTree
+unfolding insertOutcome insertCause newTree newCoefficients bytes regionTree carried weight sum tableCause regionCause
+    withinLimits passiveZero every leastUnder least eighths levels levelAt parse wellFormed start sliceFrom
+    coefficients
+    tableFrom rowsFrom
+new-tree = (refl, refl, refl, refl, refl)
+
+pub activity : Activity
+unfolding activityOutcome activityCause activityBytes regionCause parse wellFormed
+activity = (refl, refl)
+
+pub sets : Sets
+unfolding setOutcome setCause tableCause regionCause withinLimits passiveZero every leastUnder least eighths levels
+    levelAt
+    parse wellFormed start coefficients
+sets = (refl, refl, refl, refl, refl)
+
+pub fresh : Fresh
+unfolding freshOutcome start sliceFrom tableFrom rowsFrom
+fresh = (refl, refl, refl, refl, refl)
+
+pub declined : Declined
+unfolding displayOutcome costOutcome readingCause tableCause regionCause withinLimits passiveZero every leastUnder
+    least
+    eighths levels levelAt parse wellFormed start coefficients
+declined = (refl, refl, refl)
 
 pub rounded : Rounded
 unfolding wholeWatts
@@ -52,3 +114,12 @@ rounded = (refl, refl, refl, refl)
 
 pub costs : Costs
 costs = (refl, refl, refl)
+
+pub files : Files
+unfolding fileOutcome fileContents levelFields field activeCount activeInRow activeBefore allWithin total count every
+    leastUnder least eighths levels levelAt parse wellFormed start tableFrom rowsFrom
+files = (refl, refl, refl, refl, refl, refl)
+
+pub heads : Heads
+unfolding fileOutcome fileContents levelFields field parse wellFormed
+heads = (refl, refl, refl, refl, refl, refl, refl, refl)

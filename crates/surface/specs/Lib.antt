@@ -11,4 +11,5 @@ pub mod FloatReading
 pub mod TableFile
 pub mod Demands
 pub mod Bench
+pub mod Cases
 pub mod Computed

@@ -1,0 +1,180 @@
+-- Further cases, for what the bench sheet leaves open: each would tell a misreading of document 01 from the words.
+-- Values that are not plain in the document were worked by an unrelated evaluator with fractions (tests/evaluator).
+use mathlib.Core.Path.{_≡_}
+use mathlib.Core.Bool.{_&&_, cond}
+use mathlib.Core.List.{List, [], _∷_, _++_}
+use Prim.Native.Nat.{ℕ, _+_, _*_, _^_}
+use lib.IntN.{ℤ, pos, negℤ}
+use lib.Dec.{leb, ltb}
+use lib.ListN.{replicate, take}
+use Rattle.surface.specs.Spline.{splineAt}
+use Rattle.surface.specs.Truncation.{D, truncated}
+use Rattle.surface.specs.Table.{levels, coefficients, tableCause}
+use Rattle.surface.specs.Patch.{patchReading}
+use Rattle.surface.specs.Calls.{refused, gives, freshOutcome, insertOutcome, setOutcome, activityOutcome}
+use Rattle.surface.specs.Calls.{leastOutcome, exactOutcome, displayOutcome, costOutcome, wholeWatts, costOf}
+use Rattle.surface.specs.TableFile.{fileOutcome}
+use Rattle.surface.specs.Bench.{rows, zeros, S, flat, flat700, box, refined}
+
+-- ---- truncation against every finer level
+
+-- 1 by 1, level 1 but for the four quarter squares in the middle, which have level 3. No level 2 function's support
+-- lies
+-- among those four, and one of level 3 does.
+abbrev pub islet : ℕ → ℕ → ℕ
+islet q r = cond (leb 1 q && ltb q 3 && (leb 1 r && ltb r 3)) 3 1
+
+-- Function (−1, −1) of level 1, truncated, in the middle. (Untruncated, and truncated against level 2 only, it is
+-- 2^40.)
+abbrev pub ThreeLevels : Type 0
+ThreeLevels = truncated 1 1 islet 64 64 2 1 2 2 ≡ pos 579820584960
+
+-- Inside a cell, in rows and columns that differ: only (−2, 0) is 1, at (5, 77).
+abbrev pub InsideCell : Type 0
+InsideCell = patchReading 1 1 (levels flat) (coefficients 1 1 (zeros 13 ++ (pos 1 ∷ zeros 197))) 5 77 ≡ pos
+    3821082142339
+
+-- "There the last cell's polynomial is used": at the far edge of one cell the four splines are 0, 1/6, 4/6, 1/6.
+abbrev pub FarEdge : Type 0
+FarEdge =
+    (splineAt 1 0 0 128 ≡ 0)
+    × (splineAt 1 0 1 128 ≡ 128 ^ 3)
+    × (splineAt 1 0 2 128 ≡ 4 * 128 ^ 3)
+    × (splineAt 1 0 3 128 ≡ 128 ^ 3)
+
+-- ---- region trees
+
+-- "south-west, south-east, north-west and north-east children": level 0, a split, levels 2 and 3
+abbrev pub mixed : List ℕ
+mixed = 4 ∷ 0 ∷ 4 ∷ 0 ∷ 0 ∷ 1 ∷ 0 ∷ 2 ∷ 3 ∷ []
+
+-- The north-west child alone; all nine nodes, with no early stop at level 0; a box that squares only touch.
+abbrev pub Children : Type 0
+Children =
+    (leastOutcome 8 8 mixed (box 0 16 16 32) ≡ gives (record { level = 2; visited = 2 }))
+    × (leastOutcome 8 8 mixed (box 0 0 32 32) ≡ gives (record { level = 0; visited = 9 }))
+    × (leastOutcome 2 2 refined (box 4 0 8 8) ≡ gives (record { level = 0; visited = 5 }))
+
+-- A box in the second cell along u: "4 4 0 4 1" and eight 0.
+abbrev pub EastBox : Type 0
+EastBox =
+    insertOutcome 3 1 flat (zeros 471) (box 8 0 12 4) 1 (replicate 13 9) (zeros 471) .tree
+    ≡ 4 ∷ 4 ∷ 0 ∷ 4 ∷ 1 ∷ replicate 8 0
+
+-- ---- refusals and lent memory
+
+-- "4 before 5": an active number past its limit counts before an earlier passive number that is not 0.
+abbrev pub LimitFirst : Type 0
+LimitFirst =
+    (tableCause 1 1 refined (pos 1 ∷ (zeros 15 ++ (pos 2048001 ∷ zeros 194))) ≡ 4)
+    × (tableCause 1 1 refined (pos 1 ∷ (zeros 15 ++ (pos 2048000 ∷ zeros 194))) ≡ 5)
+    × (tableCause 1 1 flat (pos 32001 ∷ zeros 210) ≡ 4)
+    × (tableCause 1 1 flat (negℤ (pos 32000) ∷ zeros 210) ≡ 0)
+    × (exactOutcome 0 9 [] [] 999 999 ≡ refused 1)
+    × (exactOutcome 1 1 [] [] 999 999 ≡ refused 2)
+    × (exactOutcome 1 1 flat [] 999 999 ≡ refused 3)
+
+-- 17 is about the new tree: raising the whole sheet merges t17 into 13 bytes. A refused call leaves both outputs.
+abbrev pub t17 : List ℕ
+t17 = 4 ∷ 4 ∷ 4 ∷ 4 ∷ 1 ∷ replicate 12 0
+
+abbrev pub NewTree : Type 0
+NewTree =
+    (insertOutcome 1 1 t17 (zeros 211) (box 0 0 4 4) 1 (replicate 13 9) (replicate 211 (pos 7))
+    ≡ record { result = gives 13; tree = refined; numbers = zeros 211 })
+    × (insertOutcome 1 1 t17 (zeros 211) (box 0 0 4 4) 1 (replicate 12 9) (replicate 211 (pos 7))
+    ≡ record { result = refused 17; tree = replicate 12 9; numbers = replicate 211 (pos 7) })
+    × (insertOutcome 1 1 t17 (zeros 211) (box 0 0 4 4) 1 [] (pos 7 ∷ [])
+    ≡ record { result = refused 16; tree = []; numbers = pos 7 ∷ [] })
+    × (insertOutcome 1 1 t17 (zeros 211) (box 0 0 4 4) 4 [] (pos 7 ∷ []) .result ≡ refused 8)
+    × (insertOutcome 1 1 t17 (zeros 211) (box 2 0 2 4) 4 [] (pos 7 ∷ []) .result ≡ refused 7)
+
+abbrev pub Activity : Type 0
+Activity =
+    (activityOutcome 2 1 refined 0 (replicate 19 9) ≡ record { result = refused 16; after = replicate 19 9 })
+    × (activityOutcome 2 1 refined 4 (replicate 19 9) ≡ record { result = refused 8; after = replicate 19 9 })
+
+-- (0, −3) is the fourth place of S; (1, −3) is out of range; level 1 is passive.
+abbrev pub Sets : Type 0
+Sets =
+    (setOutcome 1 1 flat S 0 (pos 0) (negℤ (pos 3)) (pos 5)
+    ≡ record {
+      result = gives tt;
+      after = negℤ (pos 1000) ∷ pos 0 ∷ pos 1000 ∷ pos 5 ∷ lib.ListN.drop 4 S;
+    })
+    × (setOutcome 1 1 flat S 0 (pos 1) (negℤ (pos 3)) (pos 5) ≡ record { result = refused 9; after = S })
+    × (setOutcome 1 1 flat S 1 (pos 0) (pos 0) (pos 5) ≡ record { result = refused 9; after = S })
+    × (setOutcome 1 1 flat S 4 (pos 1) (pos 0) (pos 5) ≡ record { result = refused 8; after = S })
+    × (setOutcome 1 1 flat S 0 (pos 0) (pos 0) (pos 32001) ≡ record { result = refused 10; after = S })
+
+abbrev pub Fresh : Type 0
+Fresh =
+    (freshOutcome 1 1 (pos 32000) (9 ∷ 8 ∷ []) (replicate 211 (pos 7))
+    ≡ record { result = gives 1; tree = 0 ∷ 8 ∷ []; numbers = replicate 16 (pos 32000) ++ zeros 195 })
+    × (freshOutcome 1 1 (negℤ (pos 32001)) [] [] .result ≡ refused 10)
+    × (freshOutcome 0 9 (negℤ (pos 32001)) [] [] .result ≡ refused 1)
+    × (freshOutcome 1 1 (pos 5) [] (replicate 210 (pos 7)) .result ≡ refused 16)
+    × (freshOutcome 1 1 (pos 5) [] (replicate 211 (pos 7))
+    ≡ record { result = refused 17; tree = []; numbers = replicate 211 (pos 7) })
+
+abbrev pub Declined : Type 0
+Declined =
+    (displayOutcome 1 1 flat S 129 0 ≡ refused 6)
+    × (costOutcome 1 1 flat S 64 5 100000 ≡ refused 11)
+    × (costOutcome 1 1 flat S 129 5 100000 ≡ refused 6)
+
+-- ---- roundings
+
+-- "halves upward, also below zero (−0.5 gives 0)"; −1.5 gives −1
+abbrev pub Rounded : Type 0
+Rounded =
+    (wholeWatts (negℤ (pos (18 * 2 ^ 42))) ≡ pos 0)
+    × (wholeWatts (negℤ (pos (54 * 2 ^ 42))) ≡ negℤ (pos 1))
+    × (wholeWatts (negℤ (pos (54 * 2 ^ 42 + 1))) ≡ negℤ (pos 2))
+    × (wholeWatts (pos (18 * 2 ^ 42)) ≡ pos 1)
+
+-- "tariff 1,499 costs 1, tariff 1,500 costs 2", of 1 watt; "0 for watts of 0 or less"
+abbrev pub Costs : Type 0
+Costs = (costOf (pos 1) 1499 ≡ 1) × (costOf (pos 1) 1500 ≡ 2) × (costOf (negℤ (pos 9)) 99999 ≡ 0)
+
+-- ---- the table file
+
+-- Tag 1 with W and H, tag 2 with the tree, tag 16 with S's sixteen numbers of five bytes, tags 17 to 19 empty.
+abbrev pub fileS : List ℕ
+fileS =
+    (1 ∷ 0 ∷ 2 ∷ 1 ∷ 1 ∷ 2 ∷ 0 ∷ 1 ∷ 0 ∷ 16 ∷ 0 ∷ 80 ∷ [])
+    ++ (rows 4
+    ((255 ∷ 255 ∷ 255 ∷ 252 ∷ 24 ∷ 0 ∷ 0 ∷ 0 ∷ 0 ∷ 0 ∷ [])
+    ++ (0 ∷ 0 ∷ 0 ∷ 3 ∷ 232 ∷ 0 ∷ 0 ∷ 0 ∷ 7 ∷ 208 ∷ []))
+    ++ (17 ∷ 0 ∷ 0 ∷ 18 ∷ 0 ∷ 0 ∷ 19 ∷ 0 ∷ 0 ∷ []))
+
+-- The 2 by 1 table of 700 watts: W comes before H.
+abbrev pub file700 : List ℕ
+file700 =
+    (1 ∷ 0 ∷ 2 ∷ 2 ∷ 1 ∷ 2 ∷ 0 ∷ 1 ∷ 0 ∷ 16 ∷ 0 ∷ 100 ∷ [])
+    ++ (rows 20 (0 ∷ 0 ∷ 0 ∷ 2 ∷ 188 ∷ []) ++ (17 ∷ 0 ∷ 0 ∷ 18 ∷ 0 ∷ 0 ∷ 19 ∷ 0 ∷ 0 ∷ []))
+
+abbrev pub Files : Type 0
+Files =
+    (fileOutcome fileS (9 ∷ 8 ∷ []) (replicate 211 (pos 7))
+    ≡ record { result = gives (record { treeLength = 1; W = 1; H = 1 }); tree = 0 ∷ 8 ∷ []; numbers = S })
+    × (fileOutcome file700 (9 ∷ []) (replicate 341 (pos 7))
+    ≡ record { result = gives (record { treeLength = 1; W = 2; H = 1 }); tree = flat; numbers = flat700 })
+    × (fileOutcome (take 100 fileS) (9 ∷ []) (pos 7 ∷ []) ≡ record
+    { result = refused 12; tree = 9 ∷ []; numbers = pos 7 ∷ [] })
+    × (fileOutcome (fileS ++ (0 ∷ [])) [] [] .result ≡ refused 15)
+    × (fileOutcome fileS [] [] .result ≡ refused 16)
+    × (fileOutcome fileS [] (replicate 211 (pos 7)) ≡ record
+    { result = refused 17; tree = []; numbers = replicate 211 (pos 7) })
+
+-- "whole head, tag, length, whole body, contents"
+abbrev pub Heads : Type 0
+Heads =
+    (fileOutcome [] [] [] .result ≡ refused 12)
+    × (fileOutcome (16 ∷ []) [] [] .result ≡ refused 12)
+    × (fileOutcome (16 ∷ 0 ∷ 0 ∷ []) [] [] .result ≡ refused 13)
+    × (fileOutcome (1 ∷ 2 ∷ 0 ∷ []) [] [] .result ≡ refused 14)
+    × (fileOutcome (1 ∷ 0 ∷ 2 ∷ 1 ∷ []) [] [] .result ≡ refused 12)
+    × (fileOutcome (1 ∷ 0 ∷ 2 ∷ 1 ∷ 9 ∷ []) [] [] .result ≡ refused 1)
+    × (fileOutcome (1 ∷ 0 ∷ 2 ∷ 1 ∷ 1 ∷ 2 ∷ 0 ∷ 0 ∷ []) [] [] .result ≡ refused 14)
+    × (fileOutcome (1 ∷ 0 ∷ 2 ∷ 1 ∷ 1 ∷ 2 ∷ 0 ∷ 1 ∷ 1 ∷ []) [] [] .result ≡ refused 2)
