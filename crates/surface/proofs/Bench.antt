@@ -30,7 +30,7 @@ use Rattle.surface.specs.Computed.{inserted, visited, two-by-one, trees,
 use Rattle.surface.proofs.Least.{both, leastUnder-le-3, le-leastWhere}
 use Rattle.surface.proofs.TableLaws.{everywhere-true, when-active}
 use Rattle.surface.proofs.PatchReading.{patch-reading}
-use Rattle.surface.proofs.Demands.{bracketed-readings}
+use Rattle.surface.proofs.Around.{bracketed}
 
 -- a reading on the unrefined 1 by 1 sheet, by its patch
 read : (cs : List ℤ) (u v : ℕ) (n : ℤ) → readingCause 1 1 flat cs u v ≡ 0 → u ≤ 128 → v ≤ 128
@@ -78,7 +78,7 @@ level700-at u v f =
 -- 700×64^L over 64^L is 700
 level700-reading : (u v : ℕ) → onSheet 2 1 u v ≡ true → tableReading 2 1 refined level700 u v ≡ pos (700 * D)
 level700-reading u v on =
-    let b = bracketed-readings 2 1 refined level700 level700-acceptable u v on in
+    let b = bracketed 2 1 refined level700 level700-acceptable u v on in
     ≤ℤ-antisym
     (scale-reflects (64 ^ (b .high .L)) (one-le-pow (b .high .L) 64 (lit< tt))
     (subst (λ x. (pos (64 ^ (b .high .L)) *ℤ tableReading 2 1 refined level700 u v) ≤ℤ x) (value (b .high))

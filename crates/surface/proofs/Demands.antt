@@ -1,190 +1,106 @@
--- The demands: each statement of specs/Demands.antt, proved.
+-- The demands: each statement of specs/Demands.antt, proved. (Demand 1 of the outcomes is in Refusals.)
 use mathlib.Core.Path.{_≡_, refl, sym, ap, _∙_, subst}
-use mathlib.Core.Logic.{_⊎_, inl, inr}
 use mathlib.Core.Bool.{Bool, true, false, not, _&&_, cond}
-use mathlib.Core.List.{List, [], _∷_, _++_}
-use Prim.Native.Nat.{ℕ, zero, suc, _+_, _-_, _*_, _^_, _≤_, _<_, max}
-use native.Mathlib.Nat.{le-trans, mul-assoc, mul-comm}
-use native.Mathlib.Decide.{decLt}
+use mathlib.Core.List.{List}
+use Prim.Native.Nat.{ℕ, _+_, _*_, _≤_, max}
 use native.Mathlib.Omega.{arith}
-use lib.IntN.{ℤ, pos, negℤ, natAbs, _+ℤ_, _*ℤ_}
-use lib.Dec.{leb, ltb, eqb, T, lit<, lit≤}
-use lib.Pow.{pow-add}
-use lib.Signed.{_≤ℤ_}
-use lib.ListN.{length, getD, take, drop}
-use lib.Seq.{take-append-seam}
-use borrow.Author.Tests.{leb-true, eqb-true, eq-eqb}
-use Rattle.finite.proofs.Int.{*ℤ-assoc, mul-neg}
-use Rattle.finite.proofs.Order.{scale-mono, le-abs, le-parts, zarith}
-use Rattle.finite.proofs.Extremum.{Lowest, Highest, Nowhere, least3, greatest3}
-use Rattle.surface.specs.Sheet.{Box, goodSide, functions, quarters, onSheet}
-use Rattle.surface.specs.Quadtree.{bytes, levelAt}
-use Rattle.surface.specs.Support.{leastUnder, active, holdsAlong, holds, inBox}
-use Rattle.surface.specs.Spline.{cellOf, splineAt}
-use Rattle.surface.specs.Truncation.{D, weight, reading}
-use Rattle.surface.specs.Table.{cause, _orElse_, levels, slots, place, coefficients, limit, tableCause}
+use lib.IntN.{ℤ, natAbs, _+ℤ_, _*ℤ_}
+use lib.Dec.{ltb}
+use lib.ListN.{length, getD}
+use Rattle.surface.specs.Sheet.{goodSide, functions, onSheet}
+use Rattle.surface.specs.Support.{active, holds, inBox}
+use Rattle.surface.specs.Spline.{cellOf}
+use Rattle.surface.specs.Truncation.{D, reading}
+use Rattle.surface.specs.Table.{cause, _orElse_, levels, place, coefficients, limit, tableCause}
 use Rattle.surface.specs.Table.{Acceptable, tableReading}
-use Rattle.surface.specs.Calls.{Answer, refused, gives, answer, afterwards, put, Written, insertCause}
-use Rattle.surface.specs.Calls.{insertOutcome}
-use Rattle.surface.specs.Calls.{boxCause, lengthCause, treeOutCause, newLevels, newTree, newCoefficients}
-use Rattle.surface.specs.Demands.{SelectionRule, Insertion, Contents, left, outcomeOf, step, InsertionRaises}
-use Rattle.surface.specs.Demands.{SameRegions, OneTree, LinearReadings, Around, Bracketed, BracketedReadings}
+use Rattle.surface.specs.Calls.{afterwards}
+use Rattle.surface.specs.Calls.{lengthCause}
+use Rattle.surface.specs.Demands.{SelectionRule, InsertionRaises}
+use Rattle.surface.specs.Demands.{OneTree, LinearReadings, Bracketed, BracketedReadings}
 use Rattle.surface.specs.Demands.{afterAll}
 use Rattle.surface.specs.Demands.{RefinementMovesNoReading, ReadingFits, PatchEvaluates, TwoScale}
-use Rattle.surface.proofs.TreeBytes.{bytes-parse, tree-length}
-use Rattle.surface.proofs.TreeLevels.{levelAt-le, levelAt-beyond, one-tree}
+use Rattle.surface.proofs.TreeBytes.{tree-length}
+use Rattle.surface.proofs.TreeLevels.{levelAt-le}
 use Rattle.surface.proofs.SplineCell.{cell-inside}
-use Rattle.surface.proofs.SplineTwoScale.{spline-holds}
 use Rattle.surface.proofs.TwoScaleSum.{two-scale-sum, whole-step}
-use Rattle.surface.proofs.Least.{both, and-intro, holds-parent}
+use Rattle.surface.proofs.Least.{both}
 use Rattle.surface.proofs.Selection.{selection}
-use Rattle.surface.proofs.TableLaws.{orElse-none, cause-none, good-side, Formed, formed-tree, levels-of}
-use Rattle.surface.proofs.TableLaws.{Sound, sound, acceptable}
+use Rattle.surface.proofs.SupportLaws.{holds-positive, cell-positive, untruncated}
+use Rattle.surface.specs.Demands.{SupportIsWhereNotZero, Untruncated}
+use Rattle.surface.proofs.TableLaws.{orElse-none, cause-none, good-side, formed-tree, levels-of}
+use Rattle.surface.proofs.TableLaws.{sound, acceptable}
 use Rattle.surface.proofs.TableLaws.{place-in-slice}
 use Rattle.surface.proofs.Linear.{linear}
-use Rattle.surface.proofs.Bounds.{Between, reading-between}
 use Rattle.surface.proofs.PatchReading.{patch-carried, patch-reading}
-use Rattle.surface.proofs.Insertion.{append-nil, carried-fits, scaled-between, new-levels, insertion-sound}
-use Rattle.surface.proofs.Insertion.{insertion-reading}
+use Rattle.surface.proofs.Insertion.{carried-fits, new-levels}
+use Rattle.surface.specs.Calls.{exactOutcome, readingCause, pointCause, activityOutcome, activityCause}
+use Rattle.surface.specs.Calls.{activityBytes}
+use Rattle.surface.specs.Table.{treeOf, formed, places, regionCause}
+use Rattle.surface.specs.Demands.{ReadingGiven}
+use Rattle.finite.specs.Range.{grid}
+use Rattle.finite.proofs.Table.{getD-grid}
+use Rattle.surface.proofs.Least.{pick}
+use borrow.Author.Tests.{ltb-false}
+use Rattle.surface.proofs.Refusals.{answer-gives}
+use Rattle.surface.proofs.Around.{on-sheet, bracketed, fits}
+use Rattle.surface.proofs.OneTree.{same-tree, slice-bytes}
+use Rattle.surface.proofs.InsertionList.{accepted, step-cases, all-keep}
 
-on-sheet : (W H u v : ℕ) → onSheet W H u v ≡ true → (u ≤ 128 * W) × (v ≤ 128 * H)
-on-sheet W H u v e =
-    let e2 = both (leb u (128 * W)) (leb v (128 * H)) e in
-    (leb-true u (128 * W) (e2 .0), leb-true v (128 * H) (e2 .1))
+-- the exact reading is given on acceptable tables and points of the sheet
+pub reading-given : ReadingGiven
+unfolding exactOutcome readingCause
+reading-given W H t cs u v n = (
+  λ e.
+      let g = answer-gives (tableCause W H t cs orElse pointCause W H u v) (tableReading W H t cs u v) n e in
+      let c = orElse-none (tableCause W H t cs) (pointCause W H u v) (g .0) in
+      (c .0, cause-none 5 (onSheet W H u v) (c .1), g .1),
+  λ h. rw (h .0, h .1, h .2),
+)
 
 -- "A function is active exactly when the selection rule of source document 003 makes it so."
 pub selection-rule : SelectionRule
-selection-rule W H t cs acc L a b hL ha hb =
-    let s = sound W H t cs acc in
-    selection W H (levels t) L a b (good-side W (s .side-W) .0) (good-side H (s .side-H) .0)
-    (λ q r hq hr. rw (levels-of W H t (s .tree) q r) (levelAt-le W H 5 0 0 (s .tree .tree) q r (s .tree .shape)))
-    (omega arith) ha hb
+unfolding activityOutcome activityCause activityBytes regionCause
+selection-rule W H t L out e a b ha hb =
+    let c1 = cause 1 (not (goodSide W && goodSide H)) in
+    let c2 = cause 2 (not (formed W H (treeOf t))) in
+    let c8 = cause 8 (ltb 3 L) in
+    let c16 = lengthCause (places W H L) out in
+    let bits : ℕ → ℕ → ℕ = λ a b. cond (active W H (levels t) L a b) 1 0 in
+    let z = answer-gives (regionCause W H t orElse c8 orElse c16) tt tt e .0 in
+    let e1 = orElse-none (c1 orElse c2) (c8 orElse c16) z in
+    let e2 = orElse-none c1 c2 (e1 .0) in
+    let sides = both (goodSide W) (goodSide H) (cause-none 0 (goodSide W && goodSide H) (e2 .0)) in
+    let f = formed-tree W H t (cause-none 1 (formed W H (treeOf t)) (e2 .1)) in
+    let h3 : L ≤ 3 = level-ok L (orElse-none c8 c16 (e1 .1) .0) in
+    let s = selection W H (levels t) L a b (good-side W (sides .0) .0) (good-side H (sides .1) .0)
+    (λ q r hq hr. rw (levels-of W H t f q r) (levelAt-le W H 5 0 0 (f .tree) q r (f .shape))) h3 ha hb in
+    let at : getD (afterwards (regionCause W H t orElse c8 orElse c16) out (grid (functions W L) (functions H L) bits))
+    (b * functions W L + a) 0 ≡ bits a b =
+    rw z (getD-grid (functions W L) (functions H L) bits a b 0 ha hb) in (
+      λ one. s .0 (bit-true (active W H (levels t) L a b) (sym at ∙ one)),
+      λ sel. at ∙ rw (s .1 sel),
+    )
+  where
+    level-ok : (L : ℕ) → cause 8 (ltb 3 L) ≡ 0 → L ≤ 3
+    level-ok L c = ltb-false 3 L (pick (ltb 3 L) (λ t. cause 8 t ≡ 0 → t ≡ false) (λ _ h. absurd (omega arith))
+        (λ _ _. refl) c)
 
--- ---- readings lie between coefficients around the point
-
-module _ (W H : ℕ) (t : List ℕ) (cs : List ℤ) (acc : Acceptable W H t cs) (u v : ℕ) (on : onSheet W H u v ≡ true) where
-  abbrev coef : ℕ → ℕ → ℕ → ℤ
-  coef = coefficients W H cs
-
-  abbrev test : ℕ → ℕ → ℕ → Bool
-  test L a b = active W H (levels t) L a b && holds L a b u v
-
-  -- a coefficient in units of level 3
-  abbrev val : ℕ → ℕ → ℕ → ℤ
-  val L a b = pos (64 ^ (3 - L)) *ℤ coef L a b
-
-  -- bounds of the coefficients around the point bound the reading
-  around-bounds : (lo hi : ℤ)
-      → ((L a b : ℕ) → L < 4 → a < functions W L → b < functions H L → test L a b ≡ true → Between lo (val L a b) hi)
-      → Between (pos 603979776 *ℤ lo) (reading W H (levels t) coef u v) (pos 603979776 *ℤ hi)
-  around-bounds lo hi h =
-      let s = sound W H t cs acc in
-      let pW = good-side W (s .side-W) .0 in
-      let pH = good-side H (s .side-H) .0 in
-      let p = on-sheet W H u v on in
-      reading-between W H (levels t) coef lo hi (λ L a b. holds L a b u v ≡ true)
-      (λ L a b c d l wa wb e.
-      let e2 = both (holdsAlong (suc L) c u) (holdsAlong (suc L) d v) e in
-      and-intro (holdsAlong L a u) (holdsAlong L b v)
-      (holds-parent W L l a c wa u (e2 .0)) (holds-parent H L l b d wb v (e2 .1)))
-      (λ n L a b m ha hb act e.
-      let n3 : n ≡ 3 - L = omega arith in
-      rw n3 (h L a b (omega arith) ha hb
-      (and-intro (active W H (levels t) L a b) (holds L a b u v) (eq-eqb (leastUnder W H (levels t) L a b) L act) e)))
-      u v pW pH (p .0) (p .1)
-      (λ a b ha hb. and-intro (holdsAlong 3 a u) (holdsAlong 3 b v)
-      (spline-holds W 3 a u pW (lit≤ tt) (p .0) ha) (spline-holds H 3 b v pH (lit≤ tt) (p .1) hb))
-
-  -- some active function's support holds the point
-  somewhere : Nowhere 4 (λ L. functions W L) (λ L. functions H L) test → ⊥
-  somewhere none =
-      let b = around-bounds (pos 1) (pos 0) (λ L a b hL ha hb e. absurd (none L a b hL ha hb e)) in
-      omega (zarith, le-parts (b .0), le-parts (b .1))
-
-  abbrev R : ℤ
-  R = reading W H (levels t) coef u v
-
-  -- from units of level 3 over 36×2^24 to watts over D
-  in-watts : (L : ℕ) (c : ℤ) → L < 4 → pos (64 ^ L) *ℤ (pos 603979776 *ℤ (pos (64 ^ (3 - L)) *ℤ c)) ≡ pos D *ℤ c
-  in-watts L c hL =
-      let e : L + (3 - L) ≡ 3 = omega arith in
-      let k : 64 ^ L * (603979776 * 64 ^ (3 - L)) ≡ D =
-      ap (λ x. 64 ^ L * x) (mul-comm 603979776 (64 ^ (3 - L)))
-      ∙ sym (mul-assoc (64 ^ L) (64 ^ (3 - L)) 603979776)
-      ∙ ap (λ x. x * 603979776) (sym (pow-add 64 L (3 - L)) ∙ ap (λ x. 64 ^ x) e) in
-      ap (λ x. pos (64 ^ L) *ℤ x) (sym (*ℤ-assoc (pos 603979776) (pos (64 ^ (3 - L))) c))
-      ∙ sym (*ℤ-assoc (pos (64 ^ L)) (pos (603979776 * 64 ^ (3 - L))) c)
-      ∙ ap (λ x. pos x *ℤ c) k
-
-  bracket : Lowest 4 (λ L. functions W L) (λ L. functions H L) test val
-      → Highest 4 (λ L. functions W L) (λ L. functions H L) test val → Bracketed W H t cs u v R
-  bracket l h =
-      let b = around-bounds (val (l .L) (l .a) (l .b)) (val (h .L) (h .a) (h .b))
-      (λ L a b hL ha hb e. (l .least L a b hL ha hb e, h .greatest L a b hL ha hb e)) in
-      let tl = both (active W H (levels t) (l .L) (l .a) (l .b)) (holds (l .L) (l .a) (l .b) u v) (l .holds) in
-      let th = both (active W H (levels t) (h .L) (h .a) (h .b)) (holds (h .L) (h .a) (h .b) u v) (h .holds) in
-      record {
-        low = record {
-          L = l .L;
-          a = l .a;
-          b = l .b;
-          level = l .L-in;
-          alongU = l .a-in;
-          alongV = l .b-in;
-          isActive =
-              tl .0;
-          isAround = tl .1;
-        };
-        high = record {
-          L = h .L;
-          a = h .a;
-          b = h .b;
-          level = h .L-in;
-          alongU = h .a-in;
-          alongV = h .b-in;
-          isActive
-              = th .0;
-          isAround = th .1;
-        };
-        atLeast =
-            subst (λ x. x ≤ℤ (pos (64 ^ (l .L)) *ℤ R)) (in-watts (l .L) (coef (l .L) (l .a) (l .b)) (l .L-in))
-            (scale-mono (64 ^ (l .L)) (b .0));
-        atMost =
-            subst (λ x. (pos (64 ^ (h .L)) *ℤ R) ≤ℤ x) (in-watts (h .L) (coef (h .L) (h .a) (h .b)) (h .L-in))
-            (scale-mono (64 ^ (h .L)) (b .1));
-      }
-
-  bracketed : Bracketed W H t cs u v R
-  bracketed =
-      go (least3 4 (λ L. functions W L) (λ L. functions H L) test val)
-      (greatest3 4 (λ L. functions W L) (λ L. functions H L) test val)
-    where
-      go : Nowhere 4 (λ L. functions W L) (λ L. functions H L) test ⊎ Lowest 4 (λ L. functions W L)
-          (λ L. functions H L) test val
-          → Nowhere 4 (λ L. functions W L) (λ L. functions H L) test ⊎ Highest 4 (λ L. functions W L)
-          (λ L. functions H L) test val
-          → Bracketed W H t cs u v R
-      go (inl e) h = absurd (somewhere e)
-      go (inr l) (inl e) = absurd (somewhere e)
-      go (inr l) (inr h) = bracket l h
-
-  -- 32,000×D bounds the numerator
-  fits : natAbs R ≤ 32000 * D
-  fits =
-      let s = sound W H t cs acc in
-      let b = around-bounds (negℤ (pos (limit 3))) (pos (limit 3))
-      (λ L a b hL ha hb e. scaled-between (3 - L) L (coef L a b) (omega arith)
-      (s .limits L a b hL ha hb (both (active W H (levels t) L a b) (holds L a b u v) e .0))) in
-      le-abs R (b .0) (b .1)
+    bit-true : (t : Bool) → _≡_ {A = ℕ} (cond t 1 0) 1 → t ≡ true
+    bit-true true h = refl
+    bit-true false h = absurd (omega arith)
 
 -- "In every acceptable table each exact reading lies between the least and the greatest active coefficient, in watts,
 -- whose support holds the point."
 pub bracketed-readings : BracketedReadings
-bracketed-readings W H t cs acc u v on = bracketed W H t cs acc u v on
+bracketed-readings W H t cs u v n e =
+    let g = reading-given W H t cs u v n .0 e in
+    subst (λ k. Bracketed W H t cs u v k) (g .2) (bracketed W H t cs (g .0) u v (g .1))
 
 -- the numerator is at most 32,000×D in size
 pub reading-fits : ReadingFits
-reading-fits W H t cs acc u v on = fits W H t cs acc u v on
+reading-fits W H t cs u v n e =
+    let g = reading-given W H t cs u v n .0 e in
+    subst (λ k. natAbs k ≤ 32000 * D) (g .2) (fits W H t cs (g .0) u v (g .1))
 
 -- "The work is on a four by four patch of coefficients, subdivided from level to level."
 pub patch-evaluates : PatchEvaluates
@@ -202,36 +118,20 @@ patch-evaluates W H t cs acc u v on =
           (carried-fits W H t cs s L (cellOf W L u + k) (cellOf H L v + l) hL (omega arith) (omega arith)),
     )
 
+-- Supports end where the splines stop being 0.
+pub support-is-where-not-zero : SupportIsWhereNotZero
+support-is-where-not-zero n L a p l = (λ x h. cell-positive n L a x p l h, λ u h. holds-positive n L a u p l h)
+
+-- "A level L function (i, j) is the product of two uniform cubic B-splines."
+pub not-truncated : Untruncated
+not-truncated W H lev u v pW pH hu hv n L a b e h =
+    untruncated W H lev u v pW pH hu hv n L a b e (λ M c d l m _ _ _. h M c d l m)
+
 -- The two-scale relation of the splines.
 pub two-scale : TwoScale
 two-scale n L a u p l h = (two-scale-sum n L a u p l h, whole-step L l)
 
 -- ---- one tree
-
--- a slice of the form is its tree's bytes
-slice-bytes : (W H : ℕ) (t : List ℕ) (f : Formed W H t) → t ≡ bytes (f .tree)
-slice-bytes W H t f = bytes-parse 5 t (f .tree) [] (f .whole) ∙ append-nil (bytes (f .tree))
-
-same-tree : (W H : ℕ) → W ≤ 8 → H ≤ 8 → (s t : List ℕ) → Formed W H s → Formed W H t → SameRegions W H s t → s ≡ t
-same-tree W H hW hH s t f g e =
-    slice-bytes W H s f
-    ∙ ap bytes (one-tree W H 5 0 0 (f .tree) (g .tree) (f .shape) (g .shape)
-    (λ q r hq hr. go q r hq hr (decLt q (quarters W)) (decLt r (quarters H))))
-    ∙ sym (slice-bytes W H t g)
-  where
-    Same : ℕ → ℕ → Type 0
-    Same q r = levelAt 5 (f .tree) q r ≡ levelAt 5 (g .tree) q r
-
-    -- beyond the sheet both levels are 0
-    beyond : (q r : ℕ) → q < 32 → r < 32 → (quarters W ≤ 0 + q) ⊎ (quarters H ≤ 0 + r) → Same q r
-    beyond q r hq hr h =
-        levelAt-beyond W H 5 0 0 (f .tree) q r (f .shape) hq hr h ∙ sym
-        (levelAt-beyond W H 5 0 0 (g .tree) q r (g .shape) hq hr h)
-
-    go : (q r : ℕ) → q < 32 → r < 32 → Dec (q < quarters W) → Dec (r < quarters H) → Same q r
-    go q r hq hr (yes a) (yes b) = sym (levels-of W H s f q r) ∙ e q r a b ∙ levels-of W H t g q r
-    go q r hq hr (yes a) (no b) = beyond q r hq hr (inr (omega arith))
-    go q r hq hr (no a) b = beyond q r hq hr (inl (omega arith))
 
 pub one-tree-each : OneTree
 one-tree-each W H hW hH s t fs ft =
@@ -246,106 +146,37 @@ one-tree-each W H hW hH s t fs ft =
 
 pub linear-readings : LinearReadings
 unfolding coefficients
-linear-readings W H t₁ t₂ t₃ c₁ c₂ c₃ a b acc₁ acc₂ acc₃ same₂ same₃ e u v on =
+linear-readings W H t₁ t₂ t₃ c₁ c₂ c₃ a b acc₁ acc₂ acc₃ same₂ same₃ e u v n₁ n₂ n₃ r₁ r₂ r₃ =
     let s₁ = sound W H t₁ c₁ acc₁ in
     let hW = good-side W (s₁ .side-W) .1 in
     let hH = good-side H (s₁ .side-H) .1 in
     let e₂ = same-tree W H hW hH t₁ t₂ (s₁ .tree) (sound W H t₂ c₂ acc₂ .tree) same₂ in
     let e₃ = same-tree W H hW hH t₁ t₃ (s₁ .tree) (sound W H t₃ c₃ acc₃ .tree) same₃ in
-    linear W H (levels t₁) a b (coefficients W H c₁) (coefficients W H c₂) (coefficients W H c₃)
+    sym (reading-given W H t₁ c₁ u v n₁ .0 r₁ .2)
+    ∙ linear W H (levels t₁) a b (coefficients W H c₁) (coefficients W H c₂) (coefficients W H c₃)
     (λ L x y hL hx hy. e (place W H L x y) (place-in-slice W H L x y hL hx hy)) u v
     ∙ ap (λ t. a *ℤ tableReading W H t c₂ u v +ℤ b *ℤ tableReading W H t₁ c₃ u v) e₂
     ∙ ap (λ t. a *ℤ tableReading W H t₂ c₂ u v +ℤ b *ℤ tableReading W H t c₃ u v) e₃
+    ∙ ap (λ x. a *ℤ x +ℤ b *ℤ tableReading W H t₃ c₃ u v) (reading-given W H t₂ c₂ u v n₂ .0 r₂ .2)
+    ∙ ap (λ x. a *ℤ n₂ +ℤ b *ℤ x) (reading-given W H t₃ c₃ u v n₃ .0 r₃ .2)
 
 -- ---- insertions
 
--- what the causes of an insertion exclude
-accepted : (W H : ℕ) (t : List ℕ) (cs : List ℤ) (box : Box) (n : ℕ) (treeOut : List ℕ) (numbersOut : List ℤ)
-    → insertCause W H t cs box n treeOut numbersOut ≡ 0
-    → (tableCause W H t cs ≡ 0) × (box .u1 ≤ quarters W) × (box .v1 ≤ quarters H) × (n ≤ 3)
-unfolding insertCause
-accepted W H t cs box n treeOut numbersOut e =
-    let inside = leb (box .u1) (quarters W) && leb (box .v1) (quarters H) in
-    let area = ltb (box .u0) (box .u1) && ltb (box .v0) (box .v1) in
-    let c8 = cause 8 (not (leb 1 n && leb n 3)) in
-    let c16 = lengthCause (slots W H) numbersOut in
-    let c17 = treeOutCause (newTree t box n) treeOut in
-    let e1 = orElse-none (tableCause W H t cs) (boxCause W H box orElse c8 orElse c16 orElse c17) e in
-    let e2 = orElse-none (boxCause W H box) (c8 orElse c16 orElse c17) (e1 .1) in
-    let e3 = orElse-none c8 (c16 orElse c17) (e2 .1) in
-    let b = both area inside (cause-none 6 (area && inside) (e2 .0)) .1 in
-    let b2 = both (leb (box .u1) (quarters W)) (leb (box .v1) (quarters H)) b in
-    let m = both (leb 1 n) (leb n 3) (cause-none 7 (leb 1 n && leb n 3) (e3 .0)) .1 in
-    (e1 .0, leb-true (box .u1) (quarters W) (b2 .0), leb-true (box .v1) (quarters H) (b2 .1), leb-true n 3 m)
-
--- an insertion leaves the table it read, or the one it wrote
-step-cases : (W H : ℕ) (c : Contents) (i : Insertion) (P : Contents → Type 0)
-    → ((m : ℕ) → outcomeOf W H c i .result ≡ refused m → P c)
-    → (insertCause W H (c .tree) (c .numbers) (i .box) (i .level) (i .treeOut) (i .numbersOut) ≡ 0
-    → P (record {
-      tree = newTree (c .tree) (i .box) (i .level);
-      numbers = newCoefficients W H (c .tree) (c .numbers)
-          (i .box) (i .level);
-    }))
-    → P (step W H c i)
-unfolding insertOutcome
-step-cases W H c i P same new =
-    go (insertCause W H (c .tree) (c .numbers) (i .box) (i .level) (i .treeOut) (i .numbersOut)) refl
-  where
-    tree′ : List ℕ
-    tree′ = newTree (c .tree) (i .box) (i .level)
-
-    numbers′ : List ℤ
-    numbers′ = newCoefficients W H (c .tree) (c .numbers) (i .box) (i .level)
-
-    go : (k : ℕ) → insertCause W H (c .tree) (c .numbers) (i .box) (i .level) (i .treeOut) (i .numbersOut) ≡ k
-        → P (left c (answer k (length tree′)) (afterwards k (i .treeOut) (put tree′ (i .treeOut)))
-        (afterwards k (i .numbersOut) numbers′))
-    go zero e =
-        subst (λ l. P (record { tree = l; numbers = numbers′ }))
-        (sym (take-append-seam tree′ (drop (length tree′) (i .treeOut)))) (new e)
-    go (suc k) e = same (suc k) (ap (λ m. answer m (length tree′)) e)
-
--- one insertion, accepted or refused
-step-keeps : (W H : ℕ) (c : Contents) (i : Insertion) → Acceptable W H (c .tree) (c .numbers)
-    → Acceptable W H (step W H c i .tree) (step W H c i .numbers)
-    × ((u v : ℕ) → tableReading W H (step W H c i .tree) (step W H c i .numbers) u v ≡ tableReading W H (c .tree)
-    (c .numbers) u v)
-step-keeps W H c i acc =
-    step-cases W H c i
-    (λ d. Acceptable W H (d .tree) (d .numbers)
-    × ((u v : ℕ) → tableReading W H (d .tree) (d .numbers) u v ≡ tableReading W H (c .tree) (c .numbers) u v))
-    (λ _ _. (acc, λ u v. refl))
-    (λ e. let a = accepted W H (c .tree) (c .numbers) (i .box) (i .level) (i .treeOut) (i .numbersOut) e in
-    let s = sound W H (c .tree) (c .numbers) acc in (
-      acceptable W H _ _ (insertion-sound W H (c .tree) (c .numbers) s (i .box) (i .level) (a .3) (a .1) (a .2)),
-      insertion-reading W H (c .tree) (c .numbers) s (i .box) (i .level) (a .3) (a .1) (a .2),
-    ))
-
-all-keep : (W H : ℕ) (is : List Insertion) (c : Contents) → Acceptable W H (c .tree) (c .numbers)
-    → Acceptable W H (afterAll W H c is .tree) (afterAll W H c is .numbers)
-    × ((u v : ℕ)
-    → tableReading W H (afterAll W H c is .tree) (afterAll W H c is .numbers) u v ≡ tableReading W H (c .tree)
-    (c .numbers) u v)
-unfolding afterAll
-all-keep W H [] c acc = (acc, λ u v. refl)
-all-keep W H (i ∷ is) c acc =
-    let k = step-keeps W H c i acc in
-    let m = all-keep W H is (step W H c i) (k .0) in
-    (m .0, λ u v. m .1 u v ∙ k .1 u v)
+-- two acceptable tables with one reading have one outcome
+same-outcome : (W H : ℕ) (s t : List ℕ) (c d : List ℤ) → Acceptable W H s c → Acceptable W H t d → (u v : ℕ)
+    → tableReading W H s c u v ≡ tableReading W H t d u v → exactOutcome W H s c u v ≡ exactOutcome W H t d u v
+unfolding exactOutcome readingCause
+same-outcome W H s t c d p q u v e = rw (p, q, e)
 
 -- "After the list the exact reading at every point of the sheet equals that before the list, and so still lies between
 -- those two coefficients of the starting table."
 pub refinement-moves-no-reading : RefinementMovesNoReading
 refinement-moves-no-reading W H c is acc =
-    let k = all-keep W H is c acc in (
-      k .0,
-      λ u v on. (
-        k .1 u v,
-        subst (λ n. Bracketed W H (c .tree) (c .numbers) u v n) (sym (k .1 u v))
-            (bracketed-readings W H (c .tree) (c .numbers) acc u v on),
-      ),
-    )
+    let d = afterAll W H c is in
+    let k = all-keep W H is c acc in
+    let same : (u v : ℕ) → exactOutcome W H (d .tree) (d .numbers) u v ≡ exactOutcome W H (c .tree) (c .numbers) u v =
+    λ u v. same-outcome W H (d .tree) (c .tree) (d .numbers) (c .numbers) (k .0) acc u v (k .1 u v) in
+    (k .0, λ u v. (same u v, λ n e. bracketed-readings W H (c .tree) (c .numbers) u v n (sym (same u v) ∙ e)))
 
 -- "A box insertion raises lower levels inside the box to the one named, and changes no others."
 pub insertion-raises : InsertionRaises

@@ -13,8 +13,14 @@ pub mod Linear
 pub mod Refine
 pub mod PatchReading
 pub mod Bounds
-pub mod TableLaws
+pub mod SupportLaws
 pub mod Selection
+pub mod TableLaws
 pub mod Insertion
+pub mod Around
+pub mod OneTree
+pub mod InsertionList
+pub mod Refusals
+pub mod Writers
 pub mod Demands
 pub mod Bench

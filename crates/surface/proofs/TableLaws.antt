@@ -72,7 +72,7 @@ pub start-step : (W H L : ℕ) → start W H (suc L) ≡ start W H L + places W 
 unfolding start
 start-step W H L = refl
 
-start-mono : (W H k L : ℕ) → start W H L ≤ start W H (k + L)
+pub start-mono : (W H k L : ℕ) → start W H L ≤ start W H (k + L)
 start-mono W H zero L = rw (zero-add L) (le-refl (start W H L))
 start-mono W H (suc k) L = rw (suc-add k L) (omega (arith, start-mono W H k L, start-step W H (k + L)))
 

@@ -1,21 +1,69 @@
--- Document 00's demands 2 and 3, and document 01's "What each call is held to", as statements about the definitions.
--- Each is proved under its name in proofs/Demands.antt.
+-- Document 00's demands, and document 01's "What each call is held to", as statements about the outcomes of the calls.
+-- Each is proved under its name in proofs/Demands.antt or proofs/Refusals.antt.
 use mathlib.Core.Path.{_≡_}
 use mathlib.Core.Logic.{_↔_}
-use mathlib.Core.Bool.{Bool, true, _&&_, cond}
+use mathlib.Core.Bool.{Bool, true, false, _&&_, _||_, cond}
 use mathlib.Core.List.{List, [], _∷_}
 use Prim.Native.Nat.{ℕ, suc, _+_, _*_, _/_, _^_, _≤_, _<_, max}
 use lib.IntN.{ℤ, pos, natAbs, _+ℤ_, _*ℤ_}
+use lib.Dec.{eqb}
 use lib.Signed.{_≤ℤ_}
 use lib.ListN.{length, getD, take}
 use Rattle.finite.specs.Range.{sum}
 use Rattle.surface.specs.Sheet.{Box, functions, steps, quarters, onSheet}
-use Rattle.surface.specs.Support.{lowEnd, highEnd, active, holds, inBox}
+use Rattle.surface.specs.Support.{lowEnd, highEnd, active, holdsAlong, holds, inRegion, inBox}
 use Rattle.surface.specs.Spline.{splineAt}
-use Rattle.surface.specs.Truncation.{D, weight}
+use Rattle.surface.specs.Truncation.{D, weight, truncated}
 use Rattle.surface.specs.Patch.{patch, patchReading}
-use Rattle.surface.specs.Table.{treeOf, formed, levels, slots, coefficients, limit, Acceptable, tableReading}
-use Rattle.surface.specs.Calls.{Answer, refused, gives, Written, insertOutcome}
+use Rattle.surface.specs.Table.{treeOf, formed, levels, slots, coefficients, limit, regionCause, Acceptable}
+use Rattle.surface.specs.Table.{tableReading}
+use Rattle.surface.specs.Calls.{Answer, refused, gives, Written, Done, LeastLevel, freshOutcome, insertOutcome}
+use Rattle.surface.specs.Calls.{setOutcome, activityOutcome, leastOutcome, exactOutcome, displayOutcome}
+use Rattle.surface.specs.Calls.{costOutcome}
+use Rattle.surface.specs.TableFile.{FileResult, fileOutcome}
+
+-- ---- demand 1: "a call gives its full result, or one refusal number from document 01 and writes nothing"
+
+abbrev pub among : ℕ → List ℕ → Bool
+among n [] = false
+among n (m ∷ ms) = eqb n m || among n ms
+
+-- A refusal has one of the numbers that document 01 gives the call.
+abbrev pub RefusesWith : {A : Type 0} → List ℕ → Answer A → Type 0
+RefusesWith {A} numbers answer = (n : ℕ) → answer ≡ refused n → among n numbers ≡ true
+
+-- And it leaves both outputs as they were lent; an accepted call leaves them as long as they were.
+pub record WritesAllOrNothing {A : Type 0} (numbers : List ℕ) (o : Written A) (treeOut : List ℕ)
+    (numbersOut : List ℤ) : Type 0 where
+  pub number : RefusesWith numbers (o .result)
+  pub refusal : (n : ℕ) → o .result ≡ refused n → (o .tree ≡ treeOut) × (o .numbers ≡ numbersOut)
+  pub lengths : (length (o .tree) ≡ length treeOut) × (length (o .numbers) ≡ length numbersOut)
+
+pub record WritesPlaceOrNothing {A : Type 0} (numbers : List ℕ) (o : Done A) (lent : List A) : Type 0 where
+  pub number : RefusesWith numbers (o .result)
+  pub refusal : (n : ℕ) → o .result ≡ refused n → o .after ≡ lent
+  pub lengths : length (o .after) ≡ length lent
+
+pub record Refusals : Type 0 where
+  pub fresh : (W H : ℕ) (number : ℤ) (treeOut : List ℕ) (numbersOut : List ℤ)
+      → WritesAllOrNothing (1 ∷ 10 ∷ 16 ∷ 17 ∷ []) (freshOutcome W H number treeOut numbersOut) treeOut numbersOut
+  pub insert : (W H : ℕ) (t : List ℕ) (cs : List ℤ) (box : Box) (level : ℕ) (treeOut : List ℕ) (numbersOut : List ℤ)
+      → WritesAllOrNothing (1 ∷ 2 ∷ 3 ∷ 4 ∷ 5 ∷ 7 ∷ 8 ∷ 16 ∷ 17 ∷ [])
+      (insertOutcome W H t cs box level treeOut numbersOut) treeOut numbersOut
+  pub set : (W H : ℕ) (t : List ℕ) (cs : List ℤ) (L : ℕ) (i j number : ℤ)
+      → WritesPlaceOrNothing (1 ∷ 2 ∷ 3 ∷ 4 ∷ 5 ∷ 8 ∷ 9 ∷ 10 ∷ []) (setOutcome W H t cs L i j number) cs
+  pub activity : (W H : ℕ) (t : List ℕ) (L : ℕ) (out : List ℕ)
+      → WritesPlaceOrNothing (1 ∷ 2 ∷ 8 ∷ 16 ∷ []) (activityOutcome W H t L out) out
+  pub least : (W H : ℕ) (t : List ℕ) (box : Box) → RefusesWith (1 ∷ 2 ∷ 7 ∷ []) (leastOutcome W H t box)
+  pub exact : (W H : ℕ) (t : List ℕ) (cs : List ℤ) (u v : ℕ)
+      → RefusesWith (1 ∷ 2 ∷ 3 ∷ 4 ∷ 5 ∷ 6 ∷ []) (exactOutcome W H t cs u v)
+  pub display : (W H : ℕ) (t : List ℕ) (cs : List ℤ) (u v : ℕ)
+      → RefusesWith (1 ∷ 2 ∷ 3 ∷ 4 ∷ 5 ∷ 6 ∷ []) (displayOutcome W H t cs u v)
+  pub cost : (W H : ℕ) (t : List ℕ) (cs : List ℤ) (u v tariff : ℕ)
+      → RefusesWith (1 ∷ 2 ∷ 3 ∷ 4 ∷ 5 ∷ 6 ∷ 11 ∷ []) (costOutcome W H t cs u v tariff)
+  pub file : (bytes : List ℕ) (treeOut : List ℕ) (numbersOut : List ℤ)
+      → WritesAllOrNothing (1 ∷ 2 ∷ 4 ∷ 12 ∷ 13 ∷ 14 ∷ 15 ∷ 16 ∷ 17 ∷ []) (fileOutcome bytes treeOut numbersOut)
+      treeOut numbersOut
 
 -- ---- demand 2: "A function is active exactly when the selection rule of source document 003 makes it so."
 
@@ -32,11 +80,31 @@ SupportIn W H lev l L a b =
 abbrev pub Selected : ℕ → ℕ → (ℕ → ℕ → ℕ) → ℕ → ℕ → ℕ → Type 0
 Selected W H lev L a b = SupportIn W H lev L L a b × ¬ SupportIn W H lev (suc L) L a b
 
+-- The activity call's byte of function (a, b) is 1 exactly then.
 abbrev pub SelectionRule : Type 0
 SelectionRule =
-    (W H : ℕ) (t : List ℕ) (cs : List ℤ) → Acceptable W H t cs
-    → (L a b : ℕ) → L < 4 → a < functions W L → b < functions H L
-    → (active W H (levels t) L a b ≡ true) ↔ Selected W H (levels t) L a b
+    (W H : ℕ) (t : List ℕ) (L : ℕ) (out : List ℕ) → activityOutcome W H t L out .result ≡ gives tt
+    → (a b : ℕ) → a < functions W L → b < functions H L
+    → (getD (activityOutcome W H t L out .after) (b * functions W L + a) 0 ≡ 1) ↔ Selected W H (levels t) L a b
+
+-- The ends of a cut support are where its function stops being 0: level 3 cell x lies in it exactly when the spline
+-- is not
+-- 0 in the middle of x. And "it holds the points strictly inside it": the points of the sheet where it is not 0.
+abbrev pub SupportIsWhereNotZero : Type 0
+SupportIsWhereNotZero =
+    (n L a : ℕ) → 0 < n → L ≤ 3
+    → ((x : ℕ) → x < 8 * n → ((lowEnd L a ≤ x) × (x < highEnd n L a)) ↔ (0 < splineAt n L a (16 * x + 8)))
+    × ((u : ℕ) → u ≤ 128 * n → (holdsAlong L a u ≡ true) ↔ (0 < splineAt n L a u))
+
+-- "A level L function (i, j) is the product of two uniform cubic B-splines": so is its truncated function, where no
+-- finer
+-- function's support lies in its region.
+abbrev pub Untruncated : Type 0
+Untruncated =
+    (W H : ℕ) (lev : ℕ → ℕ → ℕ) (u v : ℕ) → 0 < W → 0 < H → u ≤ 128 * W → v ≤ 128 * H
+    → (n L a b : ℕ) → n + L ≡ 3
+    → ((M c d : ℕ) → L < M → M ≤ 3 → inRegion W H lev M c d ≡ false)
+    → truncated W H lev u v n L a b ≡ pos (splineAt W L a u * splineAt H L b v)
 
 -- ---- demand 2: "A box insertion raises lower levels inside the box to the one named, and changes no others."
 
@@ -93,8 +161,15 @@ LinearReadings =
     → Acceptable W H t₁ c₁ → Acceptable W H t₂ c₂ → Acceptable W H t₃ c₃
     → SameRegions W H t₁ t₂ → SameRegions W H t₁ t₃
     → ((p : ℕ) → p < slots W H → getD c₁ p (pos 0) ≡ a *ℤ getD c₂ p (pos 0) +ℤ b *ℤ getD c₃ p (pos 0))
-    → (u v : ℕ) → onSheet W H u v ≡ true
-    → tableReading W H t₁ c₁ u v ≡ a *ℤ tableReading W H t₂ c₂ u v +ℤ b *ℤ tableReading W H t₃ c₃ u v
+    → (u v : ℕ) (n₁ n₂ n₃ : ℤ) → exactOutcome W H t₁ c₁ u v ≡ gives n₁ → exactOutcome W H t₂ c₂ u v ≡ gives n₂
+    → exactOutcome W H t₃ c₃ u v ≡ gives n₃ → n₁ ≡ a *ℤ n₂ +ℤ b *ℤ n₃
+
+-- On an acceptable table and a point of the sheet the exact reading is given, and nowhere else.
+abbrev pub ReadingGiven : Type 0
+ReadingGiven =
+    (W H : ℕ) (t : List ℕ) (cs : List ℤ) (u v : ℕ) (n : ℤ)
+    → (exactOutcome W H t cs u v ≡ gives n)
+    ↔ (Acceptable W H t cs × (onSheet W H u v ≡ true) × (tableReading W H t cs u v ≡ n))
 
 -- ---- demand 3: "each exact reading lies between the least and the greatest active coefficient, in watts, whose
 -- support
@@ -125,8 +200,8 @@ pub record Bracketed (W H : ℕ) (t : List ℕ) (cs : List ℤ) (u v : ℕ) (n :
 
 abbrev pub BracketedReadings : Type 0
 BracketedReadings =
-    (W H : ℕ) (t : List ℕ) (cs : List ℤ) → Acceptable W H t cs
-    → (u v : ℕ) → onSheet W H u v ≡ true → Bracketed W H t cs u v (tableReading W H t cs u v)
+    (W H : ℕ) (t : List ℕ) (cs : List ℤ) (u v : ℕ) (n : ℤ)
+    → exactOutcome W H t cs u v ≡ gives n → Bracketed W H t cs u v n
 
 -- ---- demand 3: "take any list of box insertions, refused ones included, that starts from an acceptable table, each
 -- insertion reading the table that the one before it left"
@@ -136,24 +211,34 @@ afterAll W H c [] = c
 afterAll W H c (i ∷ is) = afterAll W H (step W H c i) is
 
 -- "After the list the exact reading at every point of the sheet equals that before the list, and so still lies between
--- those two coefficients of the starting table."
+-- those two coefficients of the starting table." The outcomes are equal at every point, on the sheet or off it.
 abbrev pub RefinementMovesNoReading : Type 0
 RefinementMovesNoReading =
     (W H : ℕ) (c : Contents) (is : List Insertion) → Acceptable W H (c .tree) (c .numbers)
     → Acceptable W H (afterAll W H c is .tree) (afterAll W H c is .numbers)
-    × ((u v : ℕ) → onSheet W H u v ≡ true
-    → (tableReading W H (afterAll W H c is .tree) (afterAll W H c is .numbers) u v
-    ≡ tableReading W H (c .tree) (c .numbers) u v)
-    × Bracketed W H (c .tree) (c .numbers) u v
-    (tableReading W H (afterAll W H c is .tree) (afterAll W H c is .numbers) u v))
+    × ((u v : ℕ)
+    → (exactOutcome W H (afterAll W H c is .tree) (afterAll W H c is .numbers) u v
+    ≡ exactOutcome W H (c .tree) (c .numbers) u v)
+    × ((n : ℤ) → exactOutcome W H (afterAll W H c is .tree) (afterAll W H c is .numbers) u v ≡ gives n
+    → Bracketed W H (c .tree) (c .numbers) u v n))
+
+-- The other calls that write a table leave an acceptable one.
+pub record WritesAcceptable : Type 0 where
+  pub fresh : (W H : ℕ) (number : ℤ) (treeOut : List ℕ) (numbersOut : List ℤ) (n : ℕ)
+      → freshOutcome W H number treeOut numbersOut .result ≡ gives n
+      → Acceptable W H (take n (freshOutcome W H number treeOut numbersOut .tree))
+      (freshOutcome W H number treeOut numbersOut .numbers)
+  pub set : (W H : ℕ) (t : List ℕ) (cs : List ℤ) (L : ℕ) (i j number : ℤ)
+      → setOutcome W H t cs L i j number .result ≡ gives tt → Acceptable W H t
+      (setOutcome W H t cs L i j number .after)
 
 -- ---- "a signed i64 numerator over D", "on a four by four patch of coefficients"
 
 -- The numerator is at most 32,000×D in size, which is below 2^63.
 abbrev pub ReadingFits : Type 0
 ReadingFits =
-    (W H : ℕ) (t : List ℕ) (cs : List ℤ) → Acceptable W H t cs
-    → (u v : ℕ) → onSheet W H u v ≡ true → natAbs (tableReading W H t cs u v) ≤ 32000 * D
+    (W H : ℕ) (t : List ℕ) (cs : List ℤ) (u v : ℕ) (n : ℤ)
+    → exactOutcome W H t cs u v ≡ gives n → natAbs n ≤ 32000 * D
 
 -- The patch subdivided from level to level gives the exact reading, and each entry keeps its level's limit.
 abbrev pub PatchEvaluates : Type 0

@@ -11,7 +11,8 @@ pub data Quadtree : Type 0 where
   leaf : ℕ → Quadtree
   split : Quadtree → Quadtree → Quadtree → Quadtree → Quadtree
 
--- "It is written parent first: bytes 0 to 3 are a leaf of that level, byte 4 a split followed by its children."
+-- "It is written parent first: bytes 0 to 3 are a leaf of that level, byte 4 a split followed by its south-west,
+-- south-east, north-west and north-east children."
 unfoldable pub bytes : Quadtree → List ℕ
 bytes (leaf l) = l ∷ []
 bytes (split sw se nw ne) = 4 ∷ (bytes sw ++ (bytes se ++ (bytes nw ++ bytes ne)))

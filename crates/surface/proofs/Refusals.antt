@@ -1,0 +1,349 @@
+-- Demand 1 of the outcomes: each refusal has one of the call's numbers and leaves all lent memory, and no output
+-- changes its
+-- length.
+use mathlib.Core.Path.{_≡_, refl, sym, ap, _∙_, subst}
+use mathlib.Core.Bool.{Bool, true, false, not, _&&_, _||_, cond}
+use mathlib.Core.List.{List, [], _∷_, _++_}
+use Prim.Native.Nat.{ℕ, zero, suc, _+_, _-_, _*_, _≤_, _<_}
+use native.Mathlib.Nat.{mul-comm, suc-add, add-suc}
+use native.Mathlib.Omega.{arith}
+use lib.IntN.{ℤ, pos, natAbs}
+use lib.Dec.{leb, ltb, eqb, eqb·suc-zero}
+use borrow.Author.Tests.{ltb-false, eqb-true}
+use lib.ListN.{length, getD, drop, take, set, length-append, length-drop, length-set}
+use Rattle.finite.specs.Range.{grid}
+use Rattle.finite.proofs.Table.{length-grid}
+use Rattle.surface.specs.Sheet.{Box, goodSide, functions, quarters, onSheet}
+use Rattle.surface.specs.Support.{active}
+use Rattle.surface.specs.Carry.{carriedOver}
+use Rattle.surface.specs.Table.{cause, _orElse_, treeOf, formed, levels, places, start, slots, place}
+use Rattle.surface.specs.Table.{coefficients, limit}
+use Rattle.surface.specs.Table.{sliceOf, withinLimits, passiveZero, regionCause, tableCause}
+use Rattle.surface.specs.Calls.{Answer, refused, gives, answer, afterwards, put, Written, written, Done}
+use Rattle.surface.specs.Calls.{lengthCause, treeOutCause, boxCause, pointCause, freshCause, freshOutcome}
+use Rattle.surface.specs.Calls.{freshCoefficients, newLevels, newTree, newCoefficients, insertCause}
+use Rattle.surface.specs.Calls.{insertOutcome, setCause, setOutcome}
+use Rattle.surface.specs.Calls.{activityBytes, activityCause, activityOutcome, leastOutcome, readingCause}
+use Rattle.surface.specs.Calls.{exactOutcome, displayOutcome, costOutcome, indexFits, index}
+use Rattle.surface.specs.TableFile.{lengthAt, fieldOr, field, loaded, activeCount, allWithin, Loaded}
+use Rattle.surface.specs.TableFile.{File, declined, contains, fileOr, inField, levelFields, fileContents}
+use Rattle.surface.specs.TableFile.{fileOutcomeOf, fileOutcome}
+use Rattle.surface.specs.Demands.{among, RefusesWith, WritesAllOrNothing, WritesPlaceOrNothing, Refusals}
+use Rattle.surface.proofs.TableLaws.{orElse-none, cause-none, slice-length, start-step}
+
+-- ---- answers
+
+module _ {A : Type 0} where
+  pub answer-gives : (c : ℕ) (a b : A) → answer c a ≡ gives b → (c ≡ 0) × (a ≡ b)
+  answer-gives zero a b e = (refl, cc)
+  answer-gives (suc c) a b e = absurd (let z : _≡_ {A = ℕ} 0 1 = cc in omega arith)
+
+  pub answer-refused : (c : ℕ) (a : A) (n : ℕ) → answer c a ≡ refused n → (c ≡ n) × (0 < n)
+  answer-refused zero a n e = absurd (let z : _≡_ {A = ℕ} 0 1 = cc in omega arith)
+  answer-refused (suc c) a n e = let h : suc c ≡ n = cc in (h, omega arith)
+
+-- ---- a cause is none, or one of some numbers
+
+abbrev OneOf : ℕ → List ℕ → Type 0
+OneOf m js = (eqb m 0 || among m js) ≡ true
+
+one-or : (m k : ℕ) (js : List ℕ) → OneOf m js → OneOf k js → OneOf (m orElse k) js
+one-or zero k js p q = q
+one-or (suc m) k js p q = p
+
+one-cause : (j : ℕ) (t : Bool) (js : List ℕ) → OneOf j js → OneOf (cause j t) js
+one-cause j true js h = h
+one-cause j false js h = refl
+
+one-region : (js : List ℕ) → OneOf 1 js → OneOf 2 js → (W H : ℕ) (t : List ℕ) → OneOf (regionCause W H t) js
+unfolding regionCause
+one-region js h1 h2 W H t =
+    one-or (cause 1 (not (goodSide W && goodSide H))) (cause 2 (not (formed W H (treeOf t)))) js
+    (one-cause 1 (not (goodSide W && goodSide H)) js h1) (one-cause 2 (not (formed W H (treeOf t))) js h2)
+
+one-table : (js : List ℕ) → OneOf 1 js → OneOf 2 js → OneOf 3 js → OneOf 4 js → OneOf 5 js
+    → (W H : ℕ) (t : List ℕ) (cs : List ℤ) → OneOf (tableCause W H t cs) js
+unfolding tableCause
+one-table js h1 h2 h3 h4 h5 W H t cs =
+    let b3 = not (eqb (length cs) (slots W H)) in
+    let b4 = not (withinLimits W H (levels t) (coefficients W H cs)) in
+    let b5 = not (passiveZero W H (levels t) (coefficients W H cs)) in
+    one-or (regionCause W H t) (cause 3 b3 orElse cause 4 b4 orElse cause 5 b5) js (one-region js h1 h2 W H t)
+    (one-or (cause 3 b3) (cause 4 b4 orElse cause 5 b5) js (one-cause 3 b3 js h3)
+    (one-or (cause 4 b4) (cause 5 b5) js (one-cause 4 b4 js h4) (one-cause 5 b5 js h5)))
+
+one-reading : (js : List ℕ) → OneOf 1 js → OneOf 2 js → OneOf 3 js → OneOf 4 js → OneOf 5 js → OneOf 6 js
+    → (W H : ℕ) (t : List ℕ) (cs : List ℤ) (u v : ℕ) → OneOf (readingCause W H t cs u v) js
+unfolding readingCause
+one-reading js h1 h2 h3 h4 h5 h6 W H t cs u v =
+    one-or (tableCause W H t cs) (pointCause W H u v) js (one-table js h1 h2 h3 h4 h5 W H t cs)
+    (one-cause 6 (not (onSheet W H u v)) js h6)
+
+-- the number that is sent is one of them
+sent : {A : Type 0} (c : ℕ) (a : A) (js : List ℕ) → OneOf c js → RefusesWith js (answer c a)
+sent c a js o n e =
+    let r = answer-refused c a n e in
+    let p : n ≡ suc (n - 1) = omega arith in
+    let m : OneOf (suc (n - 1)) js = subst (λ k. OneOf k js) (r .0 ∙ p) o in
+    subst (λ k. among k js ≡ true) (sym p) (rw (eqb·suc-zero (n - 1)) at m)
+
+-- ---- what is left in the outputs
+
+kept : {A : Type 0} {B : Type 0} (c : ℕ) (a : A) (old new : B) (n : ℕ) → answer c a ≡ refused n → afterwards c old
+    new ≡ old
+kept zero a old new n e = absurd (let z : _≡_ {A = ℕ} 0 1 = cc in omega arith)
+kept (suc c) a old new n e = refl
+
+length-after : {A : Type 0} (c : ℕ) (old new : List A) → (c ≡ 0 → length new ≡ length old)
+    → length (afterwards c old new) ≡ length old
+length-after zero old new h = h refl
+length-after (suc c) old new h = refl
+
+put-length : (tree out : List ℕ) → length tree ≤ length out → length (put tree out) ≡ length out
+put-length tree out h =
+    omega (arith, length-append tree (drop (length tree) out), length-drop (length tree) out)
+
+all-or-nothing : {A : Type 0} (js : List ℕ) (c : ℕ) (a : A) (tree : List ℕ) (numbers : List ℤ) (treeOut : List ℕ)
+    (numbersOut : List ℤ) → OneOf c js → (c ≡ 0 → length tree ≤ length treeOut) →
+    (c ≡ 0 → length numbers ≡ length numbersOut)
+    → WritesAllOrNothing js (written c a tree numbers treeOut numbersOut) treeOut numbersOut
+all-or-nothing js c a tree numbers treeOut numbersOut o ht hn =
+    record {
+      number = sent c a js o;
+      refusal = λ n e. (kept c a treeOut (put tree treeOut) n e, kept c a numbersOut numbers n e);
+      lengths = (
+        length-after c treeOut (put tree treeOut) (λ z. put-length tree treeOut (ht z)),
+        length-after c numbersOut numbers hn,
+      );
+    }
+
+place-or-nothing : {A : Type 0} (js : List ℕ) (c : ℕ) (lent new : List A) → OneOf c js →
+    (c ≡ 0 → length new ≡ length lent)
+    → WritesPlaceOrNothing js (record { result = answer c tt; after = afterwards c lent new }) lent
+place-or-nothing js c lent new o h =
+    record { number = sent c tt js o; refusal = λ n e. kept c tt lent new n e; lengths = length-after c lent new h }
+
+pub cause-off : (j : ℕ) (t : Bool) → cause (suc j) t ≡ 0 → t ≡ false
+cause-off j true e = absurd (omega arith)
+cause-off j false e = refl
+
+-- what the last two causes exclude
+pub outputs : (n : ℕ) (tree treeOut : List ℕ) (numbersOut : List ℤ) → lengthCause n numbersOut orElse treeOutCause
+    tree treeOut ≡ 0
+    → (length tree ≤ length treeOut) × (length numbersOut ≡ n)
+outputs n tree treeOut numbersOut e =
+    let e2 = orElse-none (lengthCause n numbersOut) (treeOutCause tree treeOut) e in (
+      ltb-false (length treeOut) (length tree) (cause-off 16 (ltb (length treeOut) (length tree)) (e2 .1)),
+      eqb-true (length numbersOut) n (cause-none 15 (eqb (length numbersOut) n) (e2 .0)),
+    )
+
+-- ---- the calls
+
+fresh-refusals : (W H : ℕ) (number : ℤ) (treeOut : List ℕ) (numbersOut : List ℤ)
+    → WritesAllOrNothing (1 ∷ 10 ∷ 16 ∷ 17 ∷ []) (freshOutcome W H number treeOut numbersOut) treeOut numbersOut
+unfolding freshOutcome
+fresh-refusals W H number treeOut numbersOut =
+    let js : List ℕ = 1 ∷ 10 ∷ 16 ∷ 17 ∷ [] in
+    let b1 = not (goodSide W && goodSide H) in
+    let b10 = ltb (limit 0) (natAbs number) in
+    let c16 = lengthCause (slots W H) numbersOut in
+    let c17 = treeOutCause (0 ∷ []) treeOut in
+    let out : freshCause W H number treeOut numbersOut ≡ 0 → c16 orElse c17 ≡ 0 =
+    λ e. orElse-none (cause 10 b10) (c16 orElse c17)
+    (orElse-none (cause 1 b1) (cause 10 b10 orElse c16 orElse c17) e .1) .1 in
+    all-or-nothing js (freshCause W H number treeOut numbersOut) 1 (0 ∷ []) (sliceOf W H (freshCoefficients number))
+    treeOut
+    numbersOut
+    (one-or (cause 1 b1) (cause 10 b10 orElse c16 orElse c17) js (one-cause 1 b1 js refl)
+    (one-or (cause 10 b10) (c16 orElse c17) js (one-cause 10 b10 js refl)
+    (one-or c16 c17 js (one-cause 16 (not (eqb (length numbersOut) (slots W H))) js refl)
+    (one-cause 17 (ltb (length treeOut) 1) js refl))))
+    (λ e. outputs (slots W H) (0 ∷ []) treeOut numbersOut (out e) .0)
+    (λ e. slice-length W H (freshCoefficients number) ∙ sym
+    (outputs (slots W H) (0 ∷ []) treeOut numbersOut (out e) .1))
+
+insert-refusals : (W H : ℕ) (t : List ℕ) (cs : List ℤ) (box : Box) (level : ℕ) (treeOut : List ℕ) (numbersOut : List ℤ)
+    → WritesAllOrNothing (1 ∷ 2 ∷ 3 ∷ 4 ∷ 5 ∷ 7 ∷ 8 ∷ 16 ∷ 17 ∷ [])
+    (insertOutcome W H t cs box level treeOut numbersOut)
+    treeOut numbersOut
+unfolding insertOutcome insertCause newCoefficients
+insert-refusals W H t cs box level treeOut numbersOut =
+    let js : List ℕ = 1 ∷ 2 ∷ 3 ∷ 4 ∷ 5 ∷ 7 ∷ 8 ∷ 16 ∷ 17 ∷ [] in
+    let c0 = tableCause W H t cs in
+    let b7 = not (ltb (box .u0) (box .u1) && ltb (box .v0) (box .v1) &&
+    (leb (box .u1) (quarters W) && leb (box .v1) (quarters H))) in
+    let b8 = not (leb 1 level && leb level 3) in
+    let tree = newTree t box level in
+    let c16 = lengthCause (slots W H) numbersOut in
+    let c17 = treeOutCause tree treeOut in
+    let new = carriedOver W H (levels t) (newLevels t box level) (coefficients W H cs) in
+    let out : insertCause W H t cs box level treeOut numbersOut ≡ 0 → c16 orElse c17 ≡ 0 =
+    λ e. orElse-none (cause 8 b8) (c16 orElse c17)
+    (orElse-none (cause 7 b7) (cause 8 b8 orElse c16 orElse c17)
+    (orElse-none c0 (cause 7 b7 orElse cause 8 b8 orElse c16 orElse c17) e .1) .1) .1 in
+    all-or-nothing js (insertCause W H t cs box level treeOut numbersOut) (length tree) tree (sliceOf W H new)
+    treeOut numbersOut
+    (one-or c0 (cause 7 b7 orElse cause 8 b8 orElse c16 orElse c17) js (one-table js refl refl refl refl refl W H t cs)
+    (one-or (cause 7 b7) (cause 8 b8 orElse c16 orElse c17) js (one-cause 7 b7 js refl)
+    (one-or (cause 8 b8) (c16 orElse c17) js (one-cause 8 b8 js refl)
+    (one-or c16 c17 js (one-cause 16 (not (eqb (length numbersOut) (slots W H))) js refl)
+    (one-cause 17 (ltb (length treeOut) (length tree)) js refl)))))
+    (λ e. outputs (slots W H) tree treeOut numbersOut (out e) .0)
+    (λ e. slice-length W H new ∙ sym (outputs (slots W H) tree treeOut numbersOut (out e) .1))
+
+set-refusals : (W H : ℕ) (t : List ℕ) (cs : List ℤ) (L : ℕ) (i j number : ℤ)
+    → WritesPlaceOrNothing (1 ∷ 2 ∷ 3 ∷ 4 ∷ 5 ∷ 8 ∷ 9 ∷ 10 ∷ []) (setOutcome W H t cs L i j number) cs
+unfolding setOutcome setCause
+set-refusals W H t cs L i j number =
+    let js : List ℕ = 1 ∷ 2 ∷ 3 ∷ 4 ∷ 5 ∷ 8 ∷ 9 ∷ 10 ∷ [] in
+    let c0 = tableCause W H t cs in
+    let b9 = not (indexFits W L i && indexFits H L j && active W H (levels t) L (index i) (index j)) in
+    let b10 = ltb (limit L) (natAbs number) in
+    place-or-nothing js (setCause W H t cs L i j number) cs (set cs (place W H L (index i) (index j)) number)
+    (one-or c0 (cause 8 (ltb 3 L) orElse cause 9 b9 orElse cause 10 b10) js
+    (one-table js refl refl refl refl refl W H t cs)
+    (one-or (cause 8 (ltb 3 L)) (cause 9 b9 orElse cause 10 b10) js (one-cause 8 (ltb 3 L) js refl)
+    (one-or (cause 9 b9) (cause 10 b10) js (one-cause 9 b9 js refl) (one-cause 10 b10 js refl))))
+    (λ _. length-set cs (place W H L (index i) (index j)) number)
+
+activity-refusals : (W H : ℕ) (t : List ℕ) (L : ℕ) (out : List ℕ)
+    → WritesPlaceOrNothing (1 ∷ 2 ∷ 8 ∷ 16 ∷ []) (activityOutcome W H t L out) out
+unfolding activityOutcome activityCause activityBytes
+activity-refusals W H t L out =
+    let js : List ℕ = 1 ∷ 2 ∷ 8 ∷ 16 ∷ [] in
+    let c0 = regionCause W H t in
+    let c8 = cause 8 (ltb 3 L) in
+    let c16 = lengthCause (places W H L) out in
+    let b16 = eqb (length out) (places W H L) in
+    let bits : ℕ → ℕ → ℕ = λ a b. cond (active W H (levels t) L a b) 1 0 in
+    place-or-nothing js (activityCause W H t L out) out (grid (functions W L) (functions H L) bits)
+    (one-or c0 (c8 orElse c16) js (one-region js refl refl W H t)
+    (one-or c8 c16 js (one-cause 8 (ltb 3 L) js refl) (one-cause 16 (not b16) js refl)))
+    (λ e. length-grid (functions W L) (functions H L) bits
+    ∙ mul-comm (functions H L) (functions W L)
+    ∙ sym (eqb-true (length out) (places W H L)
+    (cause-none 15 b16 (orElse-none c8 c16 (orElse-none c0 (c8 orElse c16) e .1) .1))))
+
+-- ---- the file
+
+abbrev js-file : List ℕ
+js-file = 1 ∷ 2 ∷ 4 ∷ 12 ∷ 13 ∷ 14 ∷ 15 ∷ 16 ∷ 17 ∷ []
+
+-- a declined file has one of the numbers, and one that is not fills its slice
+data Judged : File → Type 0 where
+  bad : {n : ℕ} → among n js-file ≡ true → Judged (declined n)
+  good : {f : Loaded} → length (f .numbers) ≡ slots (f .W) (f .H) → Judged (contains f)
+
+positive : (c : ℕ) → OneOf (suc c) js-file → among (suc c) js-file ≡ true
+positive c o = rw (eqb·suc-zero c) at o
+
+judged-or : (c : ℕ) (f : File) → OneOf c js-file → Judged f → Judged (fileOr c f)
+judged-or zero f o h = h
+judged-or (suc c) f o h = bad (positive c o)
+
+judged-field : (tag : ℕ) (fits : ℕ → Bool) (s : List ℕ) (f : List ℕ → List ℕ → File) →
+    ((b rest : List ℕ) → Judged (f b rest))
+    → Judged (inField (field tag fits s) f)
+unfolding field
+judged-field tag fits s f h =
+    let n = lengthAt s in
+    let b1 = ltb (length s) 3 in
+    let b2 = not (eqb (getD s 0 0) tag) in
+    let b3 = not (fits n) in
+    let b4 = ltb (length s) (3 + n) in
+    go (cause 12 b1 orElse cause 13 b2 orElse cause 14 b3 orElse cause 12 b4) (take n (drop 3 s)) (drop (3 + n) s)
+    (one-or (cause 12 b1) (cause 13 b2 orElse cause 14 b3 orElse cause 12 b4) js-file (one-cause 12 b1 js-file refl)
+    (one-or (cause 13 b2) (cause 14 b3 orElse cause 12 b4) js-file (one-cause 13 b2 js-file refl)
+    (one-or (cause 14 b3) (cause 12 b4) js-file (one-cause 14 b3 js-file refl) (one-cause 12 b4 js-file refl))))
+  where
+    go : (c : ℕ) (b rest : List ℕ) → OneOf c js-file → Judged (inField (fieldOr c b rest) f)
+    go zero b rest o = h b rest
+    go (suc c) b rest o = bad (positive c o)
+
+judged-levels : (W H : ℕ) (t : List ℕ) (n L : ℕ) (before : List ℤ) (s : List ℕ) → n + L ≡ 4 → length before ≡ start
+    W H L
+    → Judged (levelFields W H t n L before s)
+unfolding levelFields
+judged-levels W H t zero L before s e h =
+    let four : L ≡ 4 = omega arith in
+    judged-or (cause 15 (ltb 0 (length s))) _ (one-cause 15 (ltb 0 (length s)) js-file refl)
+    (good (h ∙ ap (λ k. start W H k) four))
+judged-levels W H t (suc n) L before s e h =
+    let k = activeCount W H (levels t) L in
+    judged-field (16 + L) (λ m. eqb m (5 * k)) s _ λ b rest.
+    let part : ℕ → ℕ → ℤ = λ a c. loaded W H (levels t) L b a c in
+    judged-or (cause 4 (not (allWithin L k b))) _ (one-cause 4 (not (allWithin L k b)) js-file refl)
+    (judged-levels W H t n (suc L) (before ++ grid (functions W L) (functions H L) part) rest (omega arith)
+    (omega (
+      arith,
+      length-append before (grid (functions W L) (functions H L) part),
+      length-grid (functions W L)
+          (functions H L) part,
+      mul-comm (functions H L) (functions W L),
+      start-step W H L,
+    )))
+
+judged-file : (s : List ℕ) → Judged (fileContents s)
+unfolding fileContents start
+judged-file s =
+    judged-field 1 (λ n. eqb n 2) s _ λ sides rest.
+    let W = getD sides 0 0 in
+    let H = getD sides 1 0 in
+    let b1 = not (goodSide W && goodSide H) in
+    judged-or (cause 1 b1) _ (one-cause 1 b1 js-file refl)
+    (judged-field 2 (λ n. leb 1 n && leb n 1365) rest _ λ t rest2.
+    let b2 = not (formed W H (treeOf t)) in
+    judged-or (cause 2 b2) _ (one-cause 2 b2 js-file refl) (judged-levels W H t 4 0 [] rest2 refl refl))
+
+file-refusals : (s treeOut : List ℕ) (numbersOut : List ℤ)
+    → WritesAllOrNothing js-file (fileOutcome s treeOut numbersOut) treeOut numbersOut
+unfolding fileOutcome
+file-refusals s treeOut numbersOut = go (fileContents s) (judged-file s)
+  where
+    go : (f : File) → Judged f → WritesAllOrNothing js-file (fileOutcomeOf f treeOut numbersOut) treeOut numbersOut
+    go (declined n) (bad h) =
+        record {
+          number = λ m e. let same : n ≡ m = cc in subst (λ k. among k js-file ≡ true) same h;
+          refusal = λ m e. (refl, refl);
+          lengths = (refl, refl);
+        }
+    go (contains f) (good h) =
+        let n = slots (f .W) (f .H) in
+        let c16 = lengthCause n numbersOut in
+        let c17 = treeOutCause (f .tree) treeOut in
+        all-or-nothing js-file (c16 orElse c17) _ (f .tree) (f .numbers) treeOut numbersOut
+        (one-or c16 c17 js-file (one-cause 16 (not (eqb (length numbersOut) n)) js-file refl)
+        (one-cause 17 (ltb (length treeOut) (length (f .tree))) js-file refl))
+        (λ e. outputs n (f .tree) treeOut numbersOut e .0)
+        (λ e. h ∙ sym (outputs n (f .tree) treeOut numbersOut e .1))
+
+-- ---- all of them
+
+-- "For every input a call gives its full result, or one refusal number from document 01 and writes nothing."
+pub refusals : Refusals
+unfolding leastOutcome exactOutcome displayOutcome costOutcome
+refusals =
+    record {
+      fresh = fresh-refusals;
+      insert = insert-refusals;
+      set = set-refusals;
+      activity = activity-refusals;
+      least = λ W H t box.
+          let b7 = not (ltb (box .u0) (box .u1) && ltb (box .v0) (box .v1)
+          && (leb (box .u1) (quarters W) && leb (box .v1) (quarters H))) in
+          let js : List ℕ = 1 ∷ 2 ∷ 7 ∷ [] in
+          sent (regionCause W H t orElse cause 7 b7) _ js
+          (one-or (regionCause W H t) (cause 7 b7) js (one-region js refl refl W H t) (one-cause 7 b7 js refl));
+      exact = λ W H t cs u v.
+          let js : List ℕ = 1 ∷ 2 ∷ 3 ∷ 4 ∷ 5 ∷ 6 ∷ [] in
+          sent (readingCause W H t cs u v) _ js (one-reading js refl refl refl refl refl refl W H t cs u v);
+      display = λ W H t cs u v.
+          let js : List ℕ = 1 ∷ 2 ∷ 3 ∷ 4 ∷ 5 ∷ 6 ∷ [] in
+          sent (readingCause W H t cs u v) _ js (one-reading js refl refl refl refl refl refl W H t cs u v);
+      cost = λ W H t cs u v tariff.
+          let js : List ℕ = 1 ∷ 2 ∷ 3 ∷ 4 ∷ 5 ∷ 6 ∷ 11 ∷ [] in
+          sent (readingCause W H t cs u v orElse cause 11 (ltb 99999 tariff)) _ js
+          (one-or (readingCause W H t cs u v) (cause 11 (ltb 99999 tariff)) js
+          (one-reading js refl refl refl refl refl refl W H t cs u v) (one-cause 11 (ltb 99999 tariff) js refl));
+      file = file-refusals;
+    }
