@@ -1,14 +1,11 @@
 -- Further cases, for what the bench sheet leaves open: each would tell a misreading of document 01 from the words.
 -- Values that are not plain in the document were worked by an unrelated evaluator with fractions (tests/evaluator).
 use mathlib.Core.Path.{_≡_}
-use mathlib.Core.Bool.{_&&_, cond}
 use mathlib.Core.List.{List, [], _∷_, _++_}
 use Prim.Native.Nat.{ℕ, _+_, _*_, _^_}
 use lib.IntN.{ℤ, pos, negℤ}
-use lib.Dec.{leb, ltb}
 use lib.ListN.{replicate, take}
-use Rattle.surface.specs.Spline.{splineAt}
-use Rattle.surface.specs.Truncation.{D, truncated}
+use Rattle.surface.specs.Truncation.{D}
 use Rattle.surface.specs.Table.{levels, coefficients, tableCause}
 use Rattle.surface.specs.Patch.{patchReading}
 use Rattle.surface.specs.Calls.{refused, gives, freshOutcome, insertOutcome, setOutcome, activityOutcome}
@@ -16,31 +13,12 @@ use Rattle.surface.specs.Calls.{leastOutcome, exactOutcome, displayOutco
 use Rattle.surface.specs.TableFile.{fileOutcome}
 use Rattle.surface.specs.Bench.{rows, zeros, S, flat, flat700, box, refined}
 
--- ---- truncation against every finer level
-
--- 1 by 1, level 1 but for the four quarter squares in the middle, which have level 3. No level 2 function's support
--- lies
--- among those four, and one of level 3 does.
-abbrev pub islet : ℕ → ℕ → ℕ
-islet q r = cond (leb 1 q && ltb q 3 && (leb 1 r && ltb r 3)) 3 1
-
--- Function (−1, −1) of level 1, truncated, in the middle. (Untruncated, and truncated against level 2 only, it is
--- 2^40.)
-abbrev pub ThreeLevels : Type 0
-ThreeLevels = truncated 1 1 islet 64 64 2 1 2 2 ≡ pos 579820584960
+-- ---- readings
 
 -- Inside a cell, in rows and columns that differ: only (−2, 0) is 1, at (5, 77).
 abbrev pub InsideCell : Type 0
 InsideCell = patchReading 1 1 (levels flat) (coefficients 1 1 (zeros 13 ++ (pos 1 ∷ zeros 197))) 5 77 ≡ pos
     3821082142339
-
--- "There the last cell's polynomial is used": at the far edge of one cell the four splines are 0, 1/6, 4/6, 1/6.
-abbrev pub FarEdge : Type 0
-FarEdge =
-    (splineAt 1 0 0 128 ≡ 0)
-    × (splineAt 1 0 1 128 ≡ 128 ^ 3)
-    × (splineAt 1 0 2 128 ≡ 4 * 128 ^ 3)
-    × (splineAt 1 0 3 128 ≡ 128 ^ 3)
 
 -- ---- region trees
 

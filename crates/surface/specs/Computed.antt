@@ -18,7 +18,7 @@ use Rattle.surface.specs.Calls.{readingCause, exactOutcome, displayOutco
 use Rattle.surface.specs.TableFile.{field, activeInRow, activeCount, activeBefore, allWithin, levelFields}
 use Rattle.surface.specs.TableFile.{fileContents, fileOutcome}
 use Rattle.surface.specs.Bench.{Inserted, Visited, TwoByOne, Trees, Past}
-use Rattle.surface.specs.Cases.{ThreeLevels, InsideCell, FarEdge, Children, EastBox, LimitFirst, NewTree}
+use Rattle.surface.specs.Cases.{InsideCell, Children, EastBox, LimitFirst, NewTree}
 use Rattle.surface.specs.Cases.{Activity}
 use Rattle.surface.specs.Cases.{Sets, Fresh, Declined, Rounded, Costs, Files, Heads}
 
@@ -53,17 +53,9 @@ past = (refl, refl)
 
 -- ---- further cases
 
-pub three-levels : ThreeLevels
-unfolding truncated sum leastUnder least eighths weight splineAt cellOf piece
-three-levels = refl
-
 pub inside-cell : InsideCell
 unfolding patchReading patch sum cellOf piece leastUnder least eighths levels levelAt parse coefficients start
 inside-cell = refl
-
-pub far-edge : FarEdge
-unfolding splineAt cellOf piece eighths
-far-edge = (refl, refl, refl, refl)
 
 pub children : Children
 unfolding leastOutcome regionCause parse wellFormed levels levelAt least visits

@@ -1,0 +1,19 @@
+// What the calls answer: their result, or one refusal number of document 01.
+
+// A call that answers only whether it was done.
+pub enum Outcome {
+    Done,
+    Refused(u8),
+}
+
+// A call that writes a tree returns its length.
+pub enum Length {
+    Bytes(usize),
+    Refused(u8),
+}
+
+// The least level under a box, with the number of tree nodes visited.
+pub enum Least {
+    Level { level: u8, visited: usize },
+    Refused(u8),
+}

@@ -1,0 +1,4 @@
+pub mod Subtree
+pub mod End
+pub mod Visit
+pub mod Paint

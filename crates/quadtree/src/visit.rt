@@ -1,0 +1,97 @@
+// The least level under a box, with the number of tree nodes visited, by recursion into four children.
+ghost use mathlib.Core.Path.{_≡_};
+ghost use Prim.Native.Nat.{_+_, _≤_, min};
+ghost use mathlib.Core.Bool.{true};
+ghost use Rattle.surface.specs.Table.{treeOf, formed};
+ghost use Rattle.quadtree.specs.Subtree.{Readable};
+ghost use Rattle.quadtree.specs.Visit.{boxOf, InSheet, overlap, sharesArea, NodeOf, WalkedOver, LeastUnder};
+
+// A box in whole quarters, low corner first.
+pub struct Area {
+    pub u0: usize,
+    pub v0: usize,
+    pub u1: usize,
+    pub v1: usize,
+}
+
+// What a walk of a subtree found: the position after it, the least level of the leaves visited (3 if none was), and
+// how many nodes were visited.
+pub struct Walked {
+    pub next: usize,
+    pub least: u8,
+    pub visited: usize,
+}
+
+fn lesser(a: u8, b: u8) -> u8
+    ensures { λ r. ⌜ r ≡ min a b ⌝ }
+{
+    if a < b { a } else { b }
+}
+
+// Along one direction, the n places from x on share one with the places lo to hi - 1.
+fn overlaps(lo: usize, hi: usize, x: usize, n: usize) -> bool
+    requires { ⌜ x + n ≤ 32 ⌝ }
+    ensures { λ r. ⌜ r ≡ overlap lo hi x n ⌝ }
+{
+    x < hi && lo < x + n
+}
+
+// The square of this side at (x, y) shares area with the box.
+fn meets(x: usize, y: usize, side: usize, a: Area) -> bool
+    requires { ⌜ (x + side ≤ 32) × (y + side ≤ 32) ⌝ }
+    ensures { λ r. ⌜ r ≡ sharesArea x y side (boxOf a) ⌝ }
+{
+    overlaps(a.u0, a.u1, x, side) && overlaps(a.v0, a.v1, y, side)
+}
+
+// What a node gives: these values if it is visited, and level 3 and no count if not.
+fn node(here: bool, next: usize, least: u8, visited: usize) -> Walked
+    ensures { λ r. ⌜ NodeOf here next least visited r ⌝ }
+{
+    if here {
+        Walked {
+            next,
+            least,
+            visited,
+        }
+    } else {
+        Walked {
+            next,
+            least: 3,
+            visited: 0,
+        }
+    }
+}
+
+// Walks the tree that is written from `at` on, of the square of this side with low corner (x, y). The bytes have no
+// sizes, so subtrees away from the box are walked too, to find their ends, but not visited.
+fn walk(t: &[u8], at: usize, x: usize, y: usize, side: usize, a: Area) -> Walked
+    requires { ⌜ (x + side ≤ 32) × (y + side ≤ 32) × Readable side (now t) at ⌝ }
+    ensures { λ r. ⌜ WalkedOver x y side (boxOf a) (now (t .entry)) at r ⌝ }
+{
+    let here = meets(x, y, side, a);
+    let b = t[at];
+    if b <= 3 {
+        return node(here, at + 1, b, 1);
+    }
+    let half = side / 2;
+    let sw = walk(t, at + 1, x, y, half, a);
+    let se = walk(t, sw.next, x + half, y, half, a);
+    let nw = walk(t, se.next, x, y + half, half, a);
+    let ne = walk(t, nw.next, x + half, y + half, half, a);
+    let least = lesser(lesser(sw.least, se.least), lesser(nw.least, ne.least));
+    node(
+        here,
+        ne.next,
+        least,
+        sw.visited + se.visited + nw.visited + ne.visited + 1,
+    )
+}
+
+// The least level under a box that lies in the sheet, and the nodes visited.
+pub fn least_under(t: &[u8], w: usize, h: usize, a: Area) -> Walked
+    requires { ⌜ (w ≤ 8) × (h ≤ 8) × (formed w h (treeOf (now t)) ≡ true) × InSheet w h (boxOf a) ⌝ }
+    ensures { λ r. ⌜ LeastUnder w h (now (t .entry)) (boxOf a) (r .least) (r .visited) ⌝ }
+{
+    walk(t, 0, 0, 0, 32, a)
+}

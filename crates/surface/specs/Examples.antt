@@ -1,0 +1,78 @@
+-- Small examples of the definitions, which compute: what a reader can work by hand from document 01.
+use mathlib.Core.Path.{_≡_, refl}
+use mathlib.Core.Bool.{_&&_, cond}
+use mathlib.Core.List.{List, [], _∷_}
+use Prim.Native.Nat.{ℕ, _*_, _^_}
+use lib.IntN.{ℤ, pos, negℤ, _-ℤ_}
+use lib.Dec.{leb, ltb, eqb}
+use lib.ListN.{replicate}
+use Rattle.finite.specs.Range.{sum, least, tableFrom}
+use Rattle.surface.specs.Sheet.{Box, eighths}
+use Rattle.surface.specs.Quadtree.{Quadtree, leaf, split, bytes, regionTree, visits}
+use Rattle.surface.specs.Support.{leastUnder, active}
+use Rattle.surface.specs.Spline.{cellOf, piece, splineAt}
+use Rattle.surface.specs.Truncation.{weight, truncated}
+use Rattle.surface.specs.Carry.{raised, carried}
+
+-- ---- the far edge
+
+-- "There the last cell's polynomial is used": at the far edge of one cell the four splines are 0, 1/6, 4/6, 1/6.
+pub far-edge : tableFrom 0 4 (λ a. splineAt 1 0 a 128) ≡ 0 ∷ 128 ^ 3 ∷ 4 * 128 ^ 3 ∷ 128 ^ 3 ∷ []
+unfolding tableFrom splineAt cellOf piece eighths
+far-edge = refl
+
+-- ---- activity
+
+-- the box 0,0 to 4,4 raised to level 1 on level 0
+abbrev pub corner : Box
+corner = record { u0 = 0; v0 = 0; u1 = 4; v1 = 4 }
+
+abbrev pub onCorner : ℕ → ℕ → ℕ
+onCorner = raised (λ q r. 0) corner 1
+
+-- Supports are cut to the sheet: on 1 by 1 all of a row of level 1 is active, on 2 by 1 the first two functions.
+pub whole-row : tableFrom {A = ℕ} 0 5 (λ a. cond (active 1 1 onCorner 1 a 0) 1 0) ≡ replicate 5 1
+unfolding tableFrom leastUnder least eighths
+whole-row = refl
+
+pub half-row : tableFrom {A = ℕ} 0 7 (λ a. cond (active 2 1 onCorner 1 a 0) 1 0) ≡ 1 ∷ 1 ∷ replicate 5 0
+unfolding tableFrom leastUnder least eighths
+half-row = refl
+
+-- ---- truncation
+
+-- 1 by 1, level 1 but for the four quarter squares in the middle, which have level 3. No level 2 function's support lies
+-- among those four, and one of level 3 does.
+abbrev pub islet : ℕ → ℕ → ℕ
+islet q r = cond (leb 1 q && ltb q 3 && (leb 1 r && ltb r 3)) 3 1
+
+-- Function (−1, −1) of level 1, truncated, in the middle: worked by fractions. (Untruncated, and truncated against level 2
+-- only, it is 2^40 there.)
+pub three-levels : truncated 1 1 islet 64 64 2 1 2 2 ≡ pos 579820584960
+unfolding truncated sum leastUnder least eighths weight splineAt cellOf piece
+three-levels = refl
+
+-- ---- carrying
+
+-- S's columns −1,000, 0, 1,000, 2,000 become −32,000, 0, 32,000, 64,000, 96,000 at level 1.
+pub carried-row : tableFrom 0 5 (λ a. carried 1 1 (λ q r. 0) (λ L c d. pos (1000 * c) -ℤ pos 1000) 1 a 0)
+    ≡ negℤ (pos 32000) ∷ pos 0 ∷ pos 32000 ∷ pos 64000 ∷ pos 96000 ∷ []
+unfolding tableFrom carried leastUnder least eighths weight sum
+carried-row = refl
+
+-- ---- trees
+
+-- the corner's square of side 8: a split of one leaf of level 1 and three of level 0
+pub corner-tree : bytes (regionTree 3 0 0 onCorner) ≡ 4 ∷ 1 ∷ 0 ∷ 0 ∷ 0 ∷ []
+unfolding bytes regionTree
+corner-tree = refl
+
+-- "four children that are equal leaves are not allowed": a square of one level is one leaf
+pub merged-tree : bytes (regionTree 2 0 0 onCorner) ≡ 1 ∷ []
+unfolding bytes regionTree
+merged-tree = refl
+
+-- of the corner's tree the root and the south-west child are visited for the corner; no child only touched by the box
+pub visited-corner : visits corner 3 0 0 (split (leaf 1) (leaf 0) (leaf 0) (leaf 0)) ≡ 2
+unfolding visits
+visited-corner = refl
