@@ -1,3 +1,4 @@
+pub mod Applied
 pub mod TreeForm
 pub mod TreeBytes
 pub mod TreeLevels

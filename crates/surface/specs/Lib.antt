@@ -4,7 +4,6 @@ pub mod Support
 pub mod Spline
 pub mod Truncation
 pub mod Carry
-pub mod Examples
 pub mod Patch
 pub mod Table
 pub mod Calls

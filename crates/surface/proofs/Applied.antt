@@ -1,4 +1,4 @@
--- Small examples of the definitions, which compute: what a reader can work by hand from document 01.
+-- The definitions applied to small cases, which compute: what a reader can work by hand from document 01.
 use mathlib.Core.Path.{_≡_, refl}
 use mathlib.Core.Bool.{_&&_, cond}
 use mathlib.Core.List.{List, [], _∷_}
