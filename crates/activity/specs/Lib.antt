@@ -1,0 +1,2 @@
+pub mod Minima
+pub mod Mark

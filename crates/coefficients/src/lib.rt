@@ -1,0 +1,74 @@
+// The places of a level and where its part of the coefficients' slice starts.
+pub mod faults;
+pub mod fill;
+
+ghost use mathlib.Core.Path.{_≡_};
+ghost use Prim.Native.Nat.{ℕ, _+_, _*_, _≤_, _<_};
+ghost use Rattle.surface.specs.Sheet as Sheet;
+ghost use Rattle.surface.specs.Table as Table;
+ghost use lib.IntN.{pos};
+
+// The functions of a level along a side of n cells.
+pub fn functions(n: usize, level: usize) -> usize
+    requires { ⌜ (n ≤ 8) × (level ≤ 3) ⌝ }
+    ensures { λ r. ⌜ (r ≡ Sheet.functions n level) × (r ≤ 67) × (3 ≤ r) ⌝ }
+{
+    if level == 0 {
+        return n + 3;
+    }
+    if level == 1 {
+        return 2 * n + 3;
+    }
+    if level == 2 {
+        return 4 * n + 3;
+    }
+    8 * n + 3
+}
+
+// The places of a level.
+pub fn places(w: usize, h: usize, level: usize) -> usize
+    requires { ⌜ (w ≤ 8) × (h ≤ 8) × (level ≤ 3) ⌝ }
+    ensures { λ r. ⌜ (r ≡ Table.places w h level) × (r ≤ 4489) ⌝ }
+{
+    functions(w, level) * functions(h, level)
+}
+
+// Where a level's part of the slice starts; at level 4, the slice's length.
+pub fn start(w: usize, h: usize, level: usize) -> usize
+    requires { ⌜ (w ≤ 8) × (h ≤ 8) × (level ≤ 4) ⌝ }
+    ensures { λ r. ⌜ (r ≡ Table.start w h level) × (r ≤ 20000) ⌝ }
+{
+    if level == 0 {
+        return 0;
+    }
+    let p0 = places(w, h, 0);
+    if level == 1 {
+        return p0;
+    }
+    let p1 = places(w, h, 1);
+    if level == 2 {
+        return p0 + p1;
+    }
+    let p2 = places(w, h, 2);
+    if level == 3 {
+        return p0 + p1 + p2;
+    }
+    p0 + p1 + p2 + places(w, h, 3)
+}
+
+// A level's limit: 32,000 watts in its unit.
+pub fn limit(level: usize) -> i64
+    requires { ⌜ level ≤ 3 ⌝ }
+    ensures { λ r. ⌜ r ≡ pos (Table.limit level) ⌝ }
+{
+    if level == 0 {
+        return 32000;
+    }
+    if level == 1 {
+        return 2048000;
+    }
+    if level == 2 {
+        return 131072000;
+    }
+    8388608000
+}

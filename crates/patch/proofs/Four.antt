@@ -1,0 +1,29 @@
+-- Four in a row: what holds of each of them, and sums in two directions.
+use mathlib.Core.Path.{_≡_, refl, sym, ap, _∙_}
+use mathlib.Core.List.{List, [], _∷_}
+use Prim.Native.Nat.{ℕ, zero, suc, _*_, _<_}
+use native.Mathlib.Omega.{arith}
+use lib.IntN.{ℤ, pos, _*ℤ_}
+use Rattle.finite.specs.Range.{sum, sum2}
+use Rattle.finite.proofs.Int.{*ℤ-assoc}
+use Rattle.finite.proofs.Sum.{sum-cong, sum-scale}
+
+pub each : (P : ℕ → Type 0) → P 0 → P 1 → P 2 → P 3 → (k : ℕ) → k < 4 → P k
+each P a b c d zero h = a
+each P a b c d (suc zero) h = b
+each P a b c d (suc (suc zero)) h = c
+each P a b c d (suc (suc (suc zero))) h = d
+each P a b c d (suc (suc (suc (suc k)))) h = absurd (omega arith)
+
+pub four : {A : Type 0} {a b c d a′ b′ c′ d′ : A} → a ≡ a′ → b ≡ b′ → c ≡ c′ → d ≡ d′
+    → a ∷ b ∷ c ∷ d ∷ [] ≡ a′ ∷ b′ ∷ c′ ∷ d′ ∷ []
+four e f g h = λ i. e i ∷ f i ∷ g i ∷ h i ∷ []
+
+-- weights that are products, one of each direction: a weighted sum of weighted sums
+pub nested : (n m : ℕ) (w w′ : ℕ → ℕ) (f : ℕ → ℕ → ℤ)
+    → sum n (λ a. pos (w a) *ℤ sum m (λ b. pos (w′ b) *ℤ f a b)) ≡ sum2 n m (λ a b. pos (w a * w′ b) *ℤ f a b)
+nested n m w w′ f =
+    sum-cong n (λ a. pos (w a) *ℤ sum m (λ b. pos (w′ b) *ℤ f a b)) (λ a. sum m (λ b. pos (w a * w′ b) *ℤ f a b))
+    (λ a la. sym (sum-scale m (pos (w a)) (λ b. pos (w′ b) *ℤ f a b))
+    ∙ sum-cong m (λ b. pos (w a) *ℤ (pos (w′ b) *ℤ f a b)) (λ b. pos (w a * w′ b) *ℤ f a b)
+    (λ b lb. sym (*ℤ-assoc (pos (w a)) (pos (w′ b)) (f a b))))

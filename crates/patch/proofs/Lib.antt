@@ -1,0 +1,4 @@
+pub mod Size
+pub mod Four
+pub mod Subdivision
+pub mod Evaluation

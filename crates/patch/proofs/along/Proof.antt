@@ -1,0 +1,29 @@
+-- Each row is what the call gives of its column.
+use borrow.Author.Needs.{needs}
+use Rattle.patch.specs.Steps.{alongOf}
+use Rattle.patch.proofs.Four.{four}
+use Rattle.patch.proofs.along.Statement.{statement}
+use Rattle.patch.proofs.along.Tie as tie
+
+column-requires : tie.Need-column-requires
+column-requires c κs = search needs
+
+column-requires-2 : tie.Need-column-requires-2
+column-requires-2 c κs = search needs
+
+column-requires-3 : tie.Need-column-requires-3
+column-requires-3 c κs = search needs
+
+column-requires-4 : tie.Need-column-requires-4
+column-requires-4 c κs = search needs
+
+returns : tie.Need-returns
+unfolding alongOf
+returns c =
+    four (c .before .before .before .column .ensures) (c .before .before .column2 .ensures) (c .before .column3 .ensures)
+    (c .column4 .ensures)
+
+pub along-spec : {M : Type 1} → statement M
+along-spec =
+    tie.close
+    (tie.spec column-requires column-requires-2 column-requires-3 column-requires-4 returns)
