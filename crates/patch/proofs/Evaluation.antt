@@ -60,7 +60,8 @@ weighed-size m w x hw hx =
     let t : (a : ℤ) (k : ℕ) → k < 4 → natAbs (a *ℤ getD x k (pos 0)) ≤ natAbs a * m =
     λ a k hk. abs-mul a (getD x k (pos 0)) (le-refl (natAbs a)) (hx k hk) in
     let s =
-    abs-add (w .a *ℤ getD x 0 (pos 0) +ℤ w .b *ℤ getD x 1 (pos 0) +ℤ w .c *ℤ getD x 2 (pos 0)) (w .d *ℤ getD x 3 (pos 0))
+    abs-add (w .a *ℤ getD x 0 (pos 0) +ℤ w .b *ℤ getD x 1 (pos 0) +ℤ w .c *ℤ getD x 2 (pos 0))
+    (w .d *ℤ getD x 3 (pos 0))
     (abs-add (w .a *ℤ getD x 0 (pos 0) +ℤ w .b *ℤ getD x 1 (pos 0)) (w .c *ℤ getD x 2 (pos 0))
     (abs-add (w .a *ℤ getD x 0 (pos 0)) (w .b *ℤ getD x 1 (pos 0)) (t (w .a) 0 (lit< tt)) (t (w .b) 1 (lit< tt)))
     (t (w .c) 2 (lit< tt)))
@@ -81,7 +82,8 @@ row-at p s =
     each (λ k. getD (rowsOf p s) k (pos 0) ≡ weighed (splinesOf s) (getD p k [])) refl refl refl refl
 
 pub rows-size : (m : ℕ) (p : List (List ℤ)) (s : ℕ) → s ≤ 16 → Bounded m p → Row (24576 * m) (rowsOf p s)
-rows-size m p s h b k hk = rw (row-at p s k hk) (weighed-size m (splinesOf s) (getD p k []) (weights s h) (λ l. b k l hk))
+rows-size m p s h b k hk = rw (row-at p s k hk) (weighed-size m (splinesOf s) (getD p k []) (weights s h)
+    (λ l. b k l hk))
 
 -- their weighted sum along u is the value of the patch
 pub evaluates : (p : List (List ℤ)) (r s : ℕ) → Evaluated p r s (weighed (splinesOf r) (rowsOf p s))

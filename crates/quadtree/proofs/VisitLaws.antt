@@ -9,7 +9,8 @@ use borrow.Author.Tests.{ltb-true, leb-true, lt-ltb, le-leb}
 use Rattle.surface.specs.Sheet.{Box, quarters}
 use Rattle.surface.specs.Quadtree.{Quadtree, leaf, wellFormed, quadrant, within, levelAt, meets}
 use Rattle.surface.specs.Support.{leastWhere, inBox}
-use Rattle.surface.proofs.Least.{least-le-top, both, and-intro, lts-true, lts-intro, pick, leastWhere-le, le-leastWhere}
+use Rattle.surface.proofs.Least.{least-le-top, both, and-intro, lts-true, lts-intro, pick, leastWhere-le}
+use Rattle.surface.proofs.Least.{le-leastWhere}
 use Rattle.surface.proofs.TreeForm.{half, within-add, within-lt, half-add, half-lt, AtLeaves, AtSplits, form-induction}
 use Rattle.surface.proofs.TreeLevels.{levelAt-leaf, levelAt-child, levelAt-le}
 use Rattle.quadtree.specs.Visit.{InSheet, overlap, leastMet}

@@ -17,7 +17,11 @@ add-result-2 : tie.Need-add-result-2
 add-result-2 c = search needs
 
 returns-2 : tie.Need-returns-2
-returns-2 c = omega (arith, functions-at (c .before .before .args .n) (c .before .before .args .level) 1 (c .if2 .taken))
+returns-2 c = omega (
+  arith,
+  functions-at (c .before .before .args .n) (c .before .before .args .level) 1
+      (c .if2 .taken),
+)
 
 mul-result-2 : tie.Need-mul-result-2
 mul-result-2 c = search needs
@@ -26,7 +30,11 @@ add-result-3 : tie.Need-add-result-3
 add-result-3 c = search needs
 
 returns-3 : tie.Need-returns-3
-returns-3 c = omega (arith, functions-at (c .before .before .before .args .n) (c .before .before .before .args .level) 2 (c .if3 .taken))
+returns-3 c = omega (
+  arith,
+  functions-at (c .before .before .before .args .n)
+      (c .before .before .before .args .level) 2 (c .if3 .taken),
+)
 
 mul-result-3 : tie.Need-mul-result-3
 mul-result-3 c = search needs
@@ -35,7 +43,11 @@ add-result-4 : tie.Need-add-result-4
 add-result-4 c = search needs
 
 returns-4 : tie.Need-returns-4
-returns-4 c = omega (arith, functions-at (c .before .before .before .args .n) (c .before .before .before .args .level) 3 (omega arith))
+returns-4 c = omega (
+  arith,
+  functions-at (c .before .before .before .args .n)
+      (c .before .before .before .args .level) 3 (omega arith),
+)
 
 pub functions-spec : {M : Type 1} → statement M
 functions-spec =

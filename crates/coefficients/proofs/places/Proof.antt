@@ -13,7 +13,13 @@ functions-requires-2 : tie.Need-functions-requires-2
 functions-requires-2 c κs = search needs
 
 mul-result : tie.Need-mul-result
-mul-result c = record { fits = omega (arith, mul-le-mul (c .before .functions .ensures .1) (c .functions2 .ensures .1)) }
+mul-result c = record {
+  fits = omega (
+    arith,
+    mul-le-mul (c .before .functions .ensures .1)
+        (c .functions2 .ensures .1),
+  );
+}
 
 returns : tie.Need-returns
 returns c = (

@@ -20,7 +20,8 @@ column-requires-4 c κs = search needs
 returns : tie.Need-returns
 unfolding alongOf
 returns c =
-    four (c .before .before .before .column .ensures) (c .before .before .column2 .ensures) (c .before .column3 .ensures)
+    four (c .before .before .before .column .ensures) (c .before .before .column2 .ensures)
+    (c .before .column3 .ensures)
     (c .column4 .ensures)
 
 pub along-spec : {M : Type 1} → statement M

@@ -63,7 +63,8 @@ children-requires c κs =
 returns : tie.Need-returns
 returns c =
     let s = c .before .before .before .before .before in
-    let at : (k : ℕ) → k < 4 → toZ w64 (ofZ w64 (entry (s .args .t1) k (s .args .l))) ≡ entry (s .args .t1) k (s .args .l) =
+    let at : (k : ℕ) → k < 4 → toZ w64 (ofZ w64 (entry (s .args .t1) k (s .args .l))) ≡ entry (s .args .t1) k
+    (s .args .l) =
     λ k hk. kept (entry (s .args .t1) k (s .args .l)) (s .pre .1 k (s .args .l) hk (s .pre .0)) (lit< tt) in
     children-of (s .args .g) (c .children .ensures) (at 0 (lit< tt)) (at 1 (lit< tt)) (at 2 (lit< tt)) (at 3 (lit< tt))
 

@@ -52,7 +52,8 @@ array-copy-out-weigh-2 c = search needs
 weigh-requires-2 : tie.Need-weigh-requires-2
 weigh-requires-2 c κs =
     let s = c .before .before .before .before .before in
-    row-weighs (s .args .s) 1 (s .args .t1) (c .before .before .before .splines-at2 .ensures) (s .pre .1) (lit< tt) (s .pre .2)
+    row-weighs (s .args .s) 1 (s .args .t1) (c .before .before .before .splines-at2 .ensures) (s .pre .1) (lit< tt)
+    (s .pre .2)
 
 array-copy-out-weigh-3 : tie.Need-array-copy-out-weigh-3
 array-copy-out-weigh-3 c = search needs
@@ -60,7 +61,8 @@ array-copy-out-weigh-3 c = search needs
 weigh-requires-3 : tie.Need-weigh-requires-3
 weigh-requires-3 c κs =
     let s = c .before .before .before .before .before .before .before in
-    row-weighs (s .args .s) 2 (s .args .t1) (c .before .before .before .before .before .splines-at2 .ensures) (s .pre .1) (lit< tt) (s .pre .2)
+    row-weighs (s .args .s) 2 (s .args .t1) (c .before .before .before .before .before .splines-at2 .ensures)
+    (s .pre .1) (lit< tt) (s .pre .2)
 
 array-copy-out-weigh-4 : tie.Need-array-copy-out-weigh-4
 array-copy-out-weigh-4 c = search needs
@@ -68,7 +70,8 @@ array-copy-out-weigh-4 c = search needs
 weigh-requires-4 : tie.Need-weigh-requires-4
 weigh-requires-4 c κs =
     let s = c .before .before .before .before .before .before .before .before .before in
-    row-weighs (s .args .s) 3 (s .args .t1) (c .before .before .before .before .before .before .before .splines-at2 .ensures) (s .pre .1) (lit< tt) (s .pre .2)
+    row-weighs (s .args .s) 3 (s .args .t1) (c .before .before .before .before .before .before .before .splines-at2
+    .ensures) (s .pre .1) (lit< tt) (s .pre .2)
 
 rows : (c : tie.After-weigh4)
     → read (c .before .before .before .before .before .before .weigh .result)
@@ -76,14 +79,19 @@ rows : (c : tie.After-weigh4)
     ∷ read (c .before .before .weigh3 .result)
     ∷ read (c .weigh4 .result)
     ∷ []
-    ≡ rowsOf (c .before .before .before .before .before .before .before .before .before .before .args .t1) (c .before .before .before .before .before .before .before .before .before .before .args .s)
+    ≡ rowsOf (c .before .before .before .before .before .before .before .before .before .before .args .t1)
+    (c .before .before .before .before .before .before .before .before .before .before .args .s)
 rows c =
     let s = c .before .before .before .before .before .before .before .before .before .before in
     let e = c .before .before .before .before .before .before .before .before .splines-at2 .ensures in
     four
-    (row-value (s .args .s) 0 (s .args .t1) e (sfits-of (c .before .before .before .before .before .before .weigh .ok)) (c .before .before .before .before .before .before .weigh .ensures))
-    (row-value (s .args .s) 1 (s .args .t1) e (sfits-of (c .before .before .before .before .weigh2 .ok)) (c .before .before .before .before .weigh2 .ensures))
-    (row-value (s .args .s) 2 (s .args .t1) e (sfits-of (c .before .before .weigh3 .ok)) (c .before .before .weigh3 .ensures))
+    (row-value (s .args .s) 0 (s .args .t1) e (sfits-of
+    (c .before .before .before .before .before .before .weigh .ok))
+    (c .before .before .before .before .before .before .weigh .ensures))
+    (row-value (s .args .s) 1 (s .args .t1) e (sfits-of (c .before .before .before .before .weigh2 .ok))
+    (c .before .before .before .before .weigh2 .ensures))
+    (row-value (s .args .s) 2 (s .args .t1) e (sfits-of (c .before .before .weigh3 .ok))
+    (c .before .before .weigh3 .ensures))
     (row-value (s .args .s) 3 (s .args .t1) e (sfits-of (c .weigh4 .ok)) (c .weigh4 .ensures))
 
 weigh-requires-5 : tie.Need-weigh-requires-5
@@ -100,7 +108,8 @@ returns c =
     let s = c .before .before .before .before .before .before .before .before .before .before .before in
     toZ-ofZ w64 (c .weigh5 .result) (sfits-of (c .weigh5 .ok))
     ∙ c .weigh5 .ensures
-    ∙ ap₂ weighed (c .before .before .before .before .before .before .before .before .before .before .splines-at .ensures)
+    ∙ ap₂ weighed (c .before .before .before .before .before .before .before .before .before .before .splines-at
+    .ensures)
     (rows (c .before))
     ∙ evaluates (s .args .t1) (s .args .r) (s .args .s)
 

@@ -9,7 +9,8 @@ along-requires c κs = bounded-le (c .args .p) (lit≤ tt) (c .pre .2)
 
 along-requires-2 : tie.Need-along-requires-2
 along-requires-2 c κs =
-    rw (c .along .ensures) (step-bounded 131072000 (c .before .args .p) (c .before .args .g) (c .before .pre .0) (c .before .pre .2))
+    rw (c .along .ensures) (step-bounded 131072000 (c .before .args .p) (c .before .args .g) (c .before .pre .0)
+    (c .before .pre .2))
 
 returns : tie.Need-returns
 returns c =

@@ -18,7 +18,8 @@ module _ (s : tie.Start) (a : ℤ) (k : ℕ) (ha : natAbs a ≤ 24576) (hk : k <
   x = getD (s .args .t2) k (pos 0)
 
   product-fits : SFits w64 (toZ w64 (ofZ w64 a) *ℤ toZ w64 (ofZ w64 x))
-  product-fits = mul-fits (holds a (le-refl (natAbs a)) (omega arith)) (holds x (s .pre .1 k hk) (lit< tt)) (omega arith)
+  product-fits = mul-fits (holds a (le-refl (natAbs a)) (omega arith)) (holds x (s .pre .1 k hk) (lit< tt))
+      (omega arith)
 
   product : Holds (times (ofZ w64 a) (ofZ w64 x)) (a *ℤ x) (natAbs a * 206158430208000)
   product = mul-holds (holds a (le-refl (natAbs a)) (omega arith)) (holds x (s .pre .1 k hk) (lit< tt)) (omega arith)

@@ -37,7 +37,8 @@ loop-again c =
     let args = c .before .before .args in (
       omega arith,
       simp length-set (loop .inv .1),
-      rw (loop .inv .2) (filled-more (args .s .now) (toZ w64 (ofZ w64 (args .number))) (loop .i) (c .loop-test .taken)),
+      rw (loop .inv .2) (filled-more (args .s .now) (toZ w64 (ofZ w64 (args .number))) (loop .i)
+          (c .loop-test .taken)),
     )
 
 same-length : tie.Need-same-length Inv-loop μ-loop

@@ -15,7 +15,8 @@ returns : tie.Need-returns
 returns c =
     let a = c .before .before .args in
     let p = c .before .before .pre in
-    walk-whole (a .w) (a .h) (boxOf (a .a)) (a .t .now) (c .walk .result) (p .0) (p .1) (p .2) (p .3) (c .walk .ensures)
+    walk-whole (a .w) (a .h) (boxOf (a .a)) (a .t .now) (c .walk .result) (p .0) (p .1) (p .2) (p .3)
+    (c .walk .ensures)
 
 pub least-under-spec : {M : Type 1} → statement M
 least-under-spec = tie.close (tie.spec walk-requires returns)

@@ -1,0 +1,63 @@
+// The calls for other languages: plain numbers and slices in, the refusal number back, 0 where there is none. A slice
+// passes as a pointer and a length. What a call gives beside is written through its last parameters, and nothing is
+// written where it refuses.
+ghost use mathlib.Core.Path.{_≡_};
+ghost use Prim.Native.Nat.{ℕ};
+ghost use Rattle.surface.specs.Table.{tableCause};
+ghost use Rattle.surface.specs.Calls.{leastOutcome, activityOutcome};
+ghost use Rattle.boundary.specs.Codes.{codeOf, orGiven, levelOf, visitedOf};
+
+#[no_mangle]
+pub extern "C" fn kiln_least_level(
+    w: usize,
+    h: usize,
+    tree: &[u8],
+    u0: usize,
+    v0: usize,
+    u1: usize,
+    v1: usize,
+    level: &mut u8,
+    visited: &mut usize,
+) -> u8
+    ensures { λ r. ⌜ (r
+        ≡ codeOf (leastOutcome w h (now (tree .entry)) (record { u0 = u0; v0 = v0; u1 = u1; v1 = v1 })))
+        × (now (level .exit)
+        ≡ orGiven levelOf (leastOutcome w h (now (tree .entry)) (record { u0 = u0; v0 = v0; u1 = u1; v1 = v1 }))
+        (now (level .entry)))
+        × (now (visited .exit)
+        ≡ orGiven visitedOf (leastOutcome w h (now (tree .entry)) (record { u0 = u0; v0 = v0; u1 = u1; v1 = v1 }))
+        (now (visited .entry))) ⌝ }
+{
+    let r = query::least_level(w, h, tree, u0, v0, u1, v1);
+    match r {
+        answers::Least::Level {
+            level: l,
+            visited: n,
+        } => {
+            *level = l;
+            *visited = n;
+            0
+        }
+        answers::Least::Refused(n) => n,
+    }
+}
+
+#[no_mangle]
+pub extern "C" fn kiln_activity(w: usize, h: usize, tree: &[u8], level: usize, out: &mut [u8]) -> u8
+    ensures { λ r. ⌜ (r ≡ codeOf ((activityOutcome w h (now (tree .entry)) level (now (out .entry))) .result))
+        × (now (out .exit) ≡ (activityOutcome w h (now (tree .entry)) level (now (out .entry))) .after) ⌝ }
+{
+    let r = query::activity_of(w, h, tree, level, out);
+    match r {
+        answers::Outcome::Done => 0,
+        answers::Outcome::Refused(n) => n,
+    }
+}
+
+// The lowest of causes 1 to 5 that applies to a table, 0 for an acceptable one.
+#[no_mangle]
+pub extern "C" fn kiln_table_cause(w: usize, h: usize, tree: &[u8], numbers: &[i64]) -> u8
+    ensures { λ r. ⌜ r ≡ tableCause w h (now (tree .entry)) (now (numbers .entry)) ⌝ }
+{
+    table::cause::table_cause(w, h, tree, numbers)
+}

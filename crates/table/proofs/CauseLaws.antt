@@ -1,0 +1,136 @@
+-- The cause at each way out of `region_cause`, `box_cause` and `table_cause`.
+use mathlib.Core.Path.{_≡_, refl, sym, ap, ap₂, _∙_}
+use mathlib.Core.Bool.{Bool, true, not, Bool·not-not, _&&_, and-false}
+use mathlib.Core.List.{List}
+use Prim.Native.Nat.{ℕ, zero, suc, _+_, _*_, _/_, _%_, _≤_, _<_}
+use native.Mathlib.Omega.{arith}
+use borrow.Author.Tests.{lt-ltb, le-ltb, le-leb, lt-leb}
+use lib.Dec.{eqb}
+use lib.IntN.{ℤ}
+use lib.ListN.{length}
+use Rattle.finite.specs.Range.{every}
+use Rattle.finite.proofs.Table.{getD-table}
+use Rattle.finite.proofs.Tests.{every-cong, every2-cong}
+use Rattle.surface.specs.Sheet.{Box, goodSide, functions, quarters}
+use Rattle.surface.specs.Table.{cause, _orElse_, treeOf, formed, levels, slots, coefficients}
+use Rattle.surface.specs.Table.{withinLimits, passiveZero, regionCause, tableCause}
+use Rattle.surface.specs.Calls.{boxCause}
+use Rattle.surface.proofs.Least.{both, leastUnder-cong}
+use Rattle.surface.proofs.TableLaws.{orElse-none, cause-none, good-side}
+use Rattle.quadtree.specs.Paint.{levelMap}
+use Rattle.activity.specs.Minima.{levelsOf}
+use Rattle.table.specs.Faults.{Test, limits, zeros, holdsAt, holdsOn}
+
+-- ---- causes 1 and 2
+
+-- by the tests of the sides and of the tree
+abbrev pub region : Bool → Bool → Bool → ℕ
+region u v f = cause 1 (not (u && v)) orElse cause 2 (not f)
+
+pub region-by : (W H : ℕ) (t : List ℕ) (u v f : Bool) → u ≡ goodSide W → v ≡ goodSide H → f ≡ formed W H (treeOf t)
+    → region u v f ≡ regionCause W H t
+unfolding regionCause
+region-by W H t u v f p q r =
+    ap (λ u. region u v f) p ∙ ap (λ v. region (goodSide W) v f) q ∙ ap (region (goodSide W) (goodSide H)) r
+
+-- no cause 1 or 2
+pub region-none : (W H : ℕ) (t : List ℕ) → 0 ≡ regionCause W H t
+    → (0 < W) × (W ≤ 8) × (H ≤ 8) × (formed W H (treeOf t) ≡ true)
+unfolding regionCause
+region-none W H t e =
+    let first = cause 1 (not (goodSide W && goodSide H)) in
+    let parts = orElse-none first (cause 2 (not (formed W H (treeOf t)))) (sym e) in
+    let sides = both (goodSide W) (goodSide H) (cause-none 0 (goodSide W && goodSide H) (parts .0)) in
+    let w = good-side W (sides .0) in
+    (w .0, w .1, good-side H (sides .1) .1, cause-none 1 (formed W H (treeOf t)) (parts .1))
+
+-- ---- causes 3 to 5
+
+-- by the first two causes and the tests of the length, the limits and the passive places
+abbrev pub table : ℕ → Bool → Bool → Bool → ℕ
+table r n l z = r orElse cause 3 (not n) orElse cause 4 (not l) orElse cause 5 (not z)
+
+module _ (W H : ℕ) (t : List ℕ) (cs : List ℤ) where
+  pub table-by : (n l z : Bool) → 0 ≡ regionCause W H t → n ≡ eqb (length cs) (slots W H)
+      → l ≡ withinLimits W H (levels t) (coefficients W H cs) → z ≡ passiveZero W H (levels t) (coefficients W H cs)
+      → table 0 n l z ≡ tableCause W H t cs
+  unfolding tableCause
+  table-by n l z e p q s =
+      ap (λ r. table r n l z) e
+      ∙ ap (λ n. table (regionCause W H t) n l z) p
+      ∙ ap (λ l. table (regionCause W H t) (eqb (length cs) (slots W H)) l z) q
+      ∙ ap
+      (table (regionCause W H t) (eqb (length cs) (slots W H)) (withinLimits W H (levels t) (coefficients W H cs))) s
+
+  pub table-region : (r : ℕ) → r ≡ regionCause W H t → (r ≡ 0 → ⊥) → r ≡ tableCause W H t cs
+  unfolding tableCause
+  table-region r e h =
+      let rest = table 0 (eqb (length cs) (slots W H)) (withinLimits W H (levels t) (coefficients W H cs))
+      (passiveZero W H (levels t) (coefficients W H cs)) in
+      first r h rest ∙ ap (λ r. r orElse rest) e
+    where
+      first : (r : ℕ) → (r ≡ 0 → ⊥) → (n : ℕ) → r ≡ r orElse n
+      first zero h n = absurd (h refl)
+      first (suc r) h n = refl
+
+-- ---- the map of levels in place of the tree
+
+map-level : (t : List ℕ) (q r : ℕ) → q < 32 → r < 32 → levelsOf (levelMap t) q r ≡ levels t q r
+unfolding levelMap
+map-level t q r hq hr =
+    getD-table 0 1024 (λ p. levels t (p % 32) (p / 32)) (r * 32 + q) 0 (omega arith)
+    ∙ ap₂ (levels t) (omega arith) (omega arith)
+
+module _ (W H : ℕ) (t : List ℕ) (cs : List ℤ) (map : List ℕ) (hW : W ≤ 8) (hH : H ≤ 8) (e : map ≡ levelMap t) where
+  by-map : (p : Test)
+      → every 4 (λ L. holdsOn p W H (levelsOf map) cs L) ≡ every 4 (λ L. holdsOn p W H (levels t) cs L)
+  by-map p =
+      every-cong 4 (λ L. holdsOn p W H (levelsOf map) cs L) (λ L. holdsOn p W H (levels t) cs L)
+      λ L _. every2-cong (functions W L) (functions H L) (λ a b. holdsAt p W H (levelsOf map) cs L a b)
+      (λ a b. holdsAt p W H (levels t) cs L a b)
+      λ a b _ _. ap (p L (coefficients W H cs L a b))
+      (leastUnder-cong W H (levelsOf map) (levels t)
+      (λ q r hq hr. ap (λ m. levelsOf m q r) e ∙ map-level t q r (omega arith) (omega arith)) L a b)
+
+  -- a flag of the faults under the map, with its value
+  flag : (p : Test) {f g : Bool} → f ≡ not (every 4 (λ L. holdsOn p W H (levelsOf map) cs L)) → f ≡ not g
+      → g ≡ every 4 (λ L. holdsOn p W H (levels t) cs L)
+  flag p {f} {g} h k =
+      sym (Bool·not-not g)
+      ∙ ap not (sym k ∙ h)
+      ∙ Bool·not-not (every 4 (λ L. holdsOn p W H (levelsOf map) cs L))
+      ∙ by-map p
+
+  pub limits-flag : {f g : Bool} → f ≡ not (every 4 (λ L. holdsOn limits W H (levelsOf map) cs L)) → f ≡ not g
+      → g ≡ withinLimits W H (levels t) (coefficients W H cs)
+  unfolding withinLimits
+  limits-flag h k = flag limits h k
+
+  pub zeros-flag : {f g : Bool} → f ≡ not (every 4 (λ L. holdsOn zeros W H (levelsOf map) cs L)) → f ≡ not g
+      → g ≡ passiveZero W H (levels t) (coefficients W H cs)
+  unfolding passiveZero
+  zeros-flag h k = flag zeros h k
+
+-- ---- cause 7
+
+module _ (W H : ℕ) (b : Box) where
+  pub no-width : b .u1 ≤ b .u0 → 7 ≡ boxCause W H b
+  no-width h = simp (le-ltb (b .u0) (b .u1) h)
+
+  pub no-height : b .v1 ≤ b .v0 → 7 ≡ boxCause W H b
+  no-height h = simp (le-ltb (b .v0) (b .v1) h, and-false)
+
+  pub past-u : quarters W < b .u1 → 7 ≡ boxCause W H b
+  past-u h = simp (lt-leb (b .u1) (quarters W) h, and-false)
+
+  pub past-v : quarters H < b .v1 → 7 ≡ boxCause W H b
+  past-v h = simp (lt-leb (b .v1) (quarters H) h, and-false)
+
+  pub in-sheet : b .u0 < b .u1 → b .v0 < b .v1 → b .u1 ≤ quarters W → b .v1 ≤ quarters H → 0 ≡ boxCause W H b
+  in-sheet u v w h =
+      simp (
+        lt-ltb (b .u0) (b .u1) u,
+        lt-ltb (b .v0) (b .v1) v,
+        le-leb (b .u1) (quarters W) w,
+        le-leb (b .v1) (quarters H) h,
+      )

@@ -1,0 +1,140 @@
+-- Laws of the loops over a level's rows and over the levels: where a row stands, and one row or level more.
+use mathlib.Core.Path.{_≡_, refl, sym, ap, ap₂, _∙_, subst}
+use mathlib.Core.Bool.{Bool, true, false, not, _&&_, _||_}
+use mathlib.Core.List.{List}
+use Prim.Native.Nat.{ℕ, suc, _+_, _-_, _*_, _^_, _≤_, _<_}
+use native.Mathlib.Nat.{mul-comm, suc-mul, mul-le-mul, mul-le-mul-right, mul-le-mul-left, pow-le-pow-right}
+use native.Mathlib.Numerals.{add-one}
+use native.Mathlib.Omega.{arith}
+use lib.IntN.{ℤ, pos}
+use lib.ListN.{length, getD, take, drop, length-take, length-drop}
+use lib.Seq.{getD-take, getD-drop}
+use Rattle.finite.specs.Range.{every, every2}
+use Rattle.finite.proofs.Tests.{every-cong, every2-cong, every2-true, every2-intro}
+use Rattle.finite.proofs.Table.{place-below}
+use Rattle.surface.specs.Sheet.{functions}
+use Rattle.surface.specs.Support.{leastUnder}
+use Rattle.surface.specs.Table.{limit, places, start, slots, coefficients}
+use Rattle.surface.proofs.TableLaws.{start-step, start-mono}
+use Rattle.activity.specs.Minima.{levelsOf}
+use Rattle.table.specs.Faults.{Test, holdsAt, holdsOn, partHoldsAt, partHolds}
+
+-- ---- flags
+
+not-and : (a b : Bool) → (not a || not b) ≡ not (a && b)
+not-and true b = refl
+not-and false b = refl
+
+pub none-lost : (p : ℕ → Bool) → false ≡ not (every 0 p)
+unfolding every
+none-lost p = refl
+
+-- the flag t of the numbers below n, with the flag u of n itself
+pub lost-more : (n : ℕ) (p : ℕ → Bool) {t u v : Bool} → t ≡ not (every n p) → u ≡ not (p n) → v ≡ (t || u)
+    → v ≡ not (every (n + 1) p)
+unfolding every
+lost-more n p e f g = g ∙ ap₂ _||_ e f ∙ not-and (every n p) (p n) ∙ ap (λ k. not (every k p)) (sym (add-one n))
+
+-- ---- rows outside and columns inside
+
+same : (x y : Bool) → (x ≡ true → y ≡ true) → (y ≡ true → x ≡ true) → x ≡ y
+same true y f g = sym (f refl)
+same false true f g = g refl
+same false false f g = refl
+
+every-swap : (n m : ℕ) (p : ℕ → ℕ → Bool) → every2 m n (λ b a. p a b) ≡ every2 n m p
+every-swap n m p =
+    same (every2 m n (λ b a. p a b)) (every2 n m p)
+    (λ e. every2-intro n m p (λ a b ha hb. every2-true m n (λ b a. p a b) e b a hb ha))
+    (λ e. every2-intro m n (λ b a. p a b) (λ b a hb ha. every2-true n m p e a b ha hb))
+
+-- the test holds on the rows of level L's part below row k
+abbrev pub holdsBelow : Test → ℕ → ℕ → (ℕ → ℕ → ℕ) → List ℤ → ℕ → ℕ → Bool
+holdsBelow p W H lev part L k = every k (λ b. every (functions W L) (λ a. partHoldsAt p W H lev part L a b))
+
+-- all rows
+pub rows-done : (W H : ℕ) (lev : ℕ → ℕ → ℕ) (part : List ℤ) (L k : ℕ) → k ≡ functions H L → (p : Test)
+    → not (holdsBelow p W H lev part L k) ≡ not (partHolds p W H lev part L)
+rows-done W H lev part L k e p =
+    ap (λ k. not (holdsBelow p W H lev part L k)) e
+    ∙ ap not (every-swap (functions W L) (functions H L) (λ a b. partHoldsAt p W H lev part L a b))
+
+-- ---- where a row and a level stand
+
+pub limit-below : (L : ℕ) → L ≤ 3 → limit L < 9000000000
+limit-below L h =
+    let power : 64 ^ L ≤ 262144 = pow-le-pow-right {n = 64} (omega arith) {i = L} {j = 3} h in
+    omega (arith, mul-le-mul-left 32000 power)
+
+pub row-small : (b n : ℕ) → b < 67 → n ≤ 67 → b * n ≤ 4489
+row-small b n hb hn = let few : b ≤ 67 = omega arith in mul-le-mul few hn
+
+-- in the level's part
+pub row-fits : (W H L n b : ℕ) → n ≡ functions W L → b < functions H L → b * n + n ≤ places W H L
+row-fits W H L n b columns below =
+    let fits : b * functions W L + functions W L ≤ places W H L =
+    omega (
+      arith,
+      mul-le-mul-right (functions W L) below,
+      suc-mul b (functions W L),
+      mul-comm (functions W L) (functions H L),
+    ) in
+    rw columns fits
+
+-- the level's part in the slice
+pub level-fits : (W H L first size : ℕ) → L ≤ 3 → first ≡ start W H L → size ≡ places W H L
+    → first + size ≤ slots W H
+level-fits W H L first size low begins sized =
+    let four : (3 - L) + suc L ≡ 4 = omega arith in
+    let inside : start W H L + places W H L ≤ slots W H =
+    subst (λ k. k ≤ slots W H) (start-step W H L)
+    (subst (λ k. start W H (suc L) ≤ start W H k) four (start-mono W H (3 - L) (suc L))) in
+    rw (begins, sized) inside
+
+-- ---- a part of a list
+
+-- n coefficients from a place on
+abbrev pub part : ℕ → ℕ → List ℤ → List ℤ
+part from n cs = take (from + n - from) (drop from cs)
+
+pub part-length : (from n : ℕ) (cs : List ℤ) → from + n ≤ length cs → length (part from n cs) ≡ n
+part-length from n cs h = simp (length-take, length-drop) (omega arith)
+
+part-at : (from n : ℕ) (cs : List ℤ) (a : ℕ) → a < n → getD (part from n cs) a (pos 0) ≡ getD cs (from + a) (pos 0)
+part-at from n cs a h =
+    let inner : a < from + n - from = omega arith in
+    getD-take (from + n - from) (drop from cs) a (pos 0) inner ∙ getD-drop from cs a (pos 0)
+
+-- a test of a row's coefficients and of the least levels found is the test at the functions of row b
+pub row-holds : (W H L b n : ℕ) (cs : List ℤ) (map least : List ℕ) → n ≡ functions W L → b * n + n ≤ length cs
+    → ((a : ℕ) → a < functions W L → getD least a 0 ≡ leastUnder W H (levelsOf map) L a b) → (p : Test)
+    → every (length (part (b * n) n cs)) (λ a. p L (getD (part (b * n) n cs) a (pos 0)) (getD least a 0))
+    ≡ every (functions W L) (λ a. partHoldsAt p W H (levelsOf map) cs L a b)
+row-holds W H L b n cs map least columns fits under p =
+    ap (λ k. every k (λ a. p L (getD (part (b * n) n cs) a (pos 0)) (getD least a 0)))
+    (part-length (b * n) n cs fits ∙ columns)
+    ∙ every-cong (functions W L) (λ a. p L (getD (part (b * n) n cs) a (pos 0)) (getD least a 0))
+    (λ a. partHoldsAt p W H (levelsOf map) cs L a b)
+    (λ a ha. ap₂ (p L)
+    (part-at (b * n) n cs a (subst (λ k. a < k) (sym columns) ha) ∙ ap (λ k. getD cs (b * k + a) (pos 0)) columns)
+    (under a ha))
+
+-- a test of the level's part is the test of the level's coefficients in the slice
+level-holds : (W H L first size : ℕ) (lev : ℕ → ℕ → ℕ) (cs : List ℤ) → first ≡ start W H L
+    → size ≡ places W H L → (p : Test) → partHolds p W H lev (part first size cs) L ≡ holdsOn p W H lev cs L
+unfolding coefficients
+level-holds W H L first size lev cs begins sized p =
+    every2-cong (functions W L) (functions H L) (λ a b. partHoldsAt p W H lev (part first size cs) L a b)
+    (λ a b. holdsAt p W H lev cs L a b)
+    λ a b ha hb. ap (λ c. p L c (leastUnder W H lev L a b))
+    (part-at first size cs (b * functions W L + a)
+    (subst (λ k. b * functions W L + a < k) (mul-comm (functions H L) (functions W L) ∙ sym sized)
+    (place-below (functions W L) (functions H L) a b ha hb))
+    ∙ ap (λ k. getD cs (k + (b * functions W L + a)) (pos 0)) begins)
+
+-- a flag of the part is the flag of the level
+pub level-lost : (W H L first size : ℕ) (lev : ℕ → ℕ → ℕ) (cs : List ℤ) → first ≡ start W H L
+    → size ≡ places W H L → (p : Test) (f : Bool) → f ≡ not (partHolds p W H lev (part first size cs) L)
+    → f ≡ not (holdsOn p W H lev cs L)
+level-lost W H L first size lev cs begins sized p f e =
+    e ∙ ap not (level-holds W H L first size lev cs begins sized p)

@@ -1,0 +1,71 @@
+// The lowest number among causes 1 to 5 that applies to a table, or 0.
+ghost use mathlib.Core.Path.{_≡_};
+ghost use Prim.Native.Nat.{_≤_};
+ghost use Rattle.surface.specs.Sheet.{goodSide};
+ghost use Rattle.surface.specs.Table.{regionCause, tableCause};
+ghost use Rattle.surface.specs.Calls.{boxCause};
+ghost use Rattle.quadtree.specs.Visit.{boxOf};
+
+fn good_side(n: usize) -> bool
+    ensures { λ r. ⌜ r ≡ goodSide n ⌝ }
+{
+    if 1 <= n { n <= 8 } else { false }
+}
+
+// Causes 1 and 2: the sides and the tree.
+pub fn region_cause(w: usize, h: usize, t: &[u8]) -> u8
+    ensures { λ r. ⌜ r ≡ regionCause w h (now (t .entry)) ⌝ }
+{
+    if good_side(w) {
+        if good_side(h) {
+            if quadtree::check::well_formed(t, w, h) {
+                return 0;
+            }
+            return 2;
+        }
+    }
+    1
+}
+
+// Cause 7: a box with no area, or past the sheet.
+pub fn box_cause(w: usize, h: usize, a: quadtree::visit::Area) -> u8
+    requires { ⌜ (w ≤ 8) × (h ≤ 8) ⌝ }
+    ensures { λ r. ⌜ r ≡ boxCause w h (boxOf a) ⌝ }
+{
+    if a.u1 <= a.u0 {
+        return 7;
+    }
+    if a.v1 <= a.v0 {
+        return 7;
+    }
+    if 4 * w < a.u1 {
+        return 7;
+    }
+    if 4 * h < a.v1 {
+        return 7;
+    }
+    0
+}
+
+// Causes 1 to 5.
+pub fn table_cause(w: usize, h: usize, t: &[u8], cs: &[i64]) -> u8
+    ensures { λ r. ⌜ r ≡ tableCause w h (now (t .entry)) (now (cs .entry)) ⌝ }
+{
+    let region = region_cause(w, h, t);
+    if region != 0 {
+        return region;
+    }
+    let slots = coefficients::start(w, h, 4);
+    if cs.len() != slots {
+        return 3;
+    }
+    let map = quadtree::paint::paint(t);
+    let f = super::faults::table_faults(cs, &map, w, h);
+    if f.over {
+        return 4;
+    }
+    if f.stray {
+        return 5;
+    }
+    0
+}

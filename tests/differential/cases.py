@@ -1,0 +1,94 @@
+"""Generated calls, valid and damaged, on all sheet sizes."""
+from __future__ import annotations
+
+import sys
+from pathlib import Path
+from random import Random
+from typing import List, Tuple
+
+sys.path.insert(0, str(Path(__file__).resolve().parents[1] / "evaluator"))
+
+import calls
+import samples
+import tree as quadtree
+from surface import place_count, total_places
+
+LEAST, GREATEST = -(2**63), 2**63 - 1
+ODD_SIDES = (0, 9, 2**32 + 1, 2**64 - 1)
+
+
+def table(rng: Random) -> samples.Table:
+    """An acceptable table: unrefined, boxed, or with a level for each quarter square."""
+    w, h = rng.randint(1, 8), rng.randint(1, 8)
+    kind = rng.random()
+    if kind < 0.15:
+        return samples.table_of(rng, w, h, tuple((0,) * 32 for _ in range(32)))
+    if kind < 0.3:
+        return samples.table_of(rng, w, h, samples.speckled_levels(rng, w, h, (0, 1, 2, 3)))
+    return samples.random_table(rng, w, h)
+
+
+def damaged_tree(rng: Random, tree: List[int]) -> List[int]:
+    """A tree with one fault: empty, cut, longer, another byte, a split too deep or equal leaves."""
+    kind, tree = rng.randrange(7), list(tree)
+    if kind == 0:
+        return []
+    if kind == 1:
+        return tree[:rng.randrange(len(tree))]
+    if kind == 2:
+        return tree + [rng.choice((0, 1, 4, 255))]
+    at = rng.randrange(len(tree))
+    if kind == 3:
+        tree[at] = rng.choice((0, 1, 2, 3, 4, 5, 255))
+        return tree
+    if kind == 4:
+        return tree[:at] + [4] + [tree[at]] * 4 + tree[at + 1:]
+    if kind == 5:
+        return tree[:at] + [4, 0, 0, 0, 1] + tree[at + 1:]
+    return [rng.randrange(6) for _ in range(rng.randrange(60))]
+
+
+def damaged(rng: Random, t: samples.Table) -> samples.Table:
+    """A table with up to two faults of causes 1 to 5, or none."""
+    w, h, tree, numbers = t.w, t.h, list(t.tree), list(t.coefficients)
+    for _ in range(rng.choice((1, 1, 2))):
+        kind = rng.randrange(6)
+        if kind == 0:
+            w, h = rng.choice(((rng.choice(ODD_SIDES), h), (w, rng.choice(ODD_SIDES)), (h, w)))
+        elif kind == 1:
+            tree = damaged_tree(rng, tree)
+        elif kind == 2:
+            numbers = rng.choice((numbers[:-1], numbers + [0], []))
+        elif numbers:
+            limits = calls.surface_of(t.w, t.h, t.tree).limits()
+            active = [at for at, limit in enumerate(limits) if limit is not None and at < len(numbers)]
+            at = rng.choice(active) if kind == 3 and active else rng.randrange(len(numbers))
+            limit = (limits[at] if at < len(limits) else None) or 32_000
+            numbers[at] = rng.choice((LEAST, GREATEST, 1, limit, -limit, limit + 1, limit + 1, -limit - 1, -limit - 1))
+    return samples.Table(w, h, tree, numbers)
+
+
+def box(rng: Random, w: int, h: int) -> Tuple[int, int, int, int]:
+    w, h = min(w, 8) or 1, min(h, 8) or 1
+    u0, v0, u1, v1 = samples.random_box(rng, w, h)
+    return rng.choice(((u0, v0, u1, v1),) * 6 + ((u1, v0, u0, v1), (u0, v0, u1, v0), (u0, v0, 4 * w + 1, v1),
+                      (0, 0, 4 * w, 4 * h), (2**64 - 1, 0, 2**63, 1), (0, 0, 32, 32)))
+
+
+def any_table(rng: Random) -> samples.Table:
+    t = table(rng)
+    return damaged(rng, t) if rng.random() < 0.4 else t
+
+
+def output_length(rng: Random, exact: int) -> int:
+    return rng.choice((exact,) * 6 + (exact + 1, max(exact - 1, 0), 0))
+
+
+def level_places(t: samples.Table, level: int) -> int:
+    if 1 <= t.w <= 8 and 1 <= t.h <= 8 and 0 <= level <= 3:
+        return place_count(t.w, t.h, level)
+    return 7
+
+
+def all_places(w: int, h: int) -> int:
+    return total_places(w, h) if 1 <= w <= 8 and 1 <= h <= 8 else 11

@@ -1,0 +1,86 @@
+"""Holds the compiled library to the unrelated evaluator: every answer and every element of every lent buffer.
+
+Run as: python3 tests/differential/run.py [CALLS [SEED]]
+"""
+from __future__ import annotations
+
+import sys
+
+sys.dont_write_bytecode = True
+
+from random import Random
+from typing import Callable, Dict
+
+import cases
+from cases import calls
+from library import Library, build, numbers, octets
+
+SEED = 20_261_115
+
+
+def least_level(rng: Random, lib: Library) -> str:
+    t = cases.any_table(rng)
+    box = cases.box(rng, t.w, t.h)
+    tree = octets(t.tree)
+    got = lib.least_level(t.w, t.h, tree, box)
+    want = calls.least_level(t.w, t.h, t.tree, box).answer
+    return differ(f"least_level {t.w} {t.h} {t.tree} {box}", got, want, (tree, t.tree))
+
+
+def activity(rng: Random, lib: Library) -> str:
+    t = cases.any_table(rng)
+    level = rng.choice((0, 1, 2, 3, 3, 4, 2**40))
+    lent = [9] * cases.output_length(rng, cases.level_places(t, level))
+    tree, out = octets(t.tree), octets(lent)
+    got = lib.activity(t.w, t.h, tree, level, out)
+    want = calls.activity(t.w, t.h, t.tree, level, lent)
+    return differ(f"activity {t.w} {t.h} {t.tree} {level} {len(lent)}", got, want.answer,
+                  (tree, t.tree), (out, want.lent["activity_out"]))
+
+
+def table_cause(rng: Random, lib: Library) -> str:
+    t = cases.any_table(rng)
+    tree, values = octets(t.tree), numbers(t.coefficients)
+    got = lib.table_cause(t.w, t.h, tree, values)
+    want = calls.judge_table(t.w, t.h, t.tree, t.coefficients) or 0
+    return differ(f"table_cause {t.w} {t.h} {t.tree}", got, want, (tree, t.tree), (values, t.coefficients))
+
+
+CALLS: Dict[str, Callable[[Random, Library], str]] = {
+    "least_level": least_level, "activity": activity, "table_cause": table_cause,
+}
+
+
+def differ(words: str, got, want, *buffers) -> str:
+    """Empty where the answer, the buffers and the guards are as they should be."""
+    if got != want:
+        return f"{words}: answers {got}, should be {want}"
+    for at, (lent, after) in enumerate(buffers):
+        if not lent.guarded():
+            return f"{words}: wrote beside buffer {at}"
+        if lent.values() != list(after):
+            return f"{words}: buffer {at} is not as it should be"
+    return ""
+
+
+def main() -> int:
+    total = int(sys.argv[1]) if len(sys.argv) > 1 else 3_000
+    seed = int(sys.argv[2]) if len(sys.argv) > 2 else SEED
+    lib = Library(build())
+    faults, names = 0, list(CALLS)
+    for k in range(total):
+        name = names[k % len(names)]
+        fault = CALLS[name](Random(seed * 1_000_003 + k), lib)
+        if fault:
+            faults += 1
+            print(f"case {k} of seed {seed}: {fault[:2000]}")
+            if faults == 5:
+                break
+        if total > 5_000 and k % 5_000 == 4_999:
+            print(f"differential: {k + 1} of {total}", flush=True)
+    print(f"differential: {total} calls, {faults} faults")
+    return 1 if faults else 0
+
+
+if __name__ == "__main__":
+    sys.exit(main())
