@@ -18,7 +18,7 @@ sys.path.insert(0, str(ROOT / "tests/evaluator"))
 
 import samples
 
-CALLS = ("table_check", "least_level", "activity")
+CALLS = ("table_check", "least_level", "activity", "fresh", "set")
 SIZES = (1, 4, 8)
 TURNS = 10
 
@@ -38,8 +38,8 @@ def measure(program: str, call: str, text: str) -> Tuple[int, int]:
     counts, stack = [], 0
     with tempfile.TemporaryDirectory() as room:
         for turns in (0, TURNS):
-            run = subprocess.run(["valgrind", "--tool=callgrind", f"--callgrind-out-file={room}/out", program, call, str(turns)],
-                                 input=text, capture_output=True, text=True, check=True)
+            command = ["valgrind", "--tool=callgrind", f"--callgrind-out-file={room}/out", program, call, str(turns)]
+            run = subprocess.run(command, input=text, capture_output=True, text=True, check=True)
             counts.append(int(re.search(r"refs:\s+([\d,]+)", run.stderr).group(1).replace(",", "")))
     plain = subprocess.run([program, call, "0"], input=text, capture_output=True, text=True, check=True)
     stack = int(plain.stdout.split()[0])
@@ -49,7 +49,8 @@ def measure(program: str, call: str, text: str) -> Tuple[int, int]:
 def main() -> int:
     subprocess.run(["rt", "staticlib", "boundary"], cwd=ROOT, check=True, stdout=subprocess.DEVNULL)
     program = str(ROOT / "target/staticlib/bench")
-    subprocess.run(["gcc", "-O2", "-pthread", "-Wall", "-Wextra", "-Werror", "-o", program, str(ROOT / "tests/benchmark/bench.c"),
+    flags = ["-O2", "-pthread", "-Wall", "-Wextra", "-Werror"]
+    subprocess.run(["gcc", *flags, "-o", program, str(ROOT / "tests/benchmark/bench.c"),
                     str(ROOT / "target/staticlib/libboundary.a")], check=True)
     lines, deepest = [], 0
     for name, t in tables():
@@ -66,9 +67,9 @@ def main() -> int:
         "Instructions of one call, counted by valgrind's callgrind on x86-64, so that they repeat. Made by\n"
         "`python3 tests/benchmark/run.py`.\n\n"
         + head + "\n|" + "---|" * (len(CALLS) + 2) + "\n" + "\n".join(lines) + "\n\n"
-        f"The least level is asked over the whole sheet, the activity of level 3. Deepest stack of these calls: {deepest:,} bytes.\n"
-        "Bars: checking the fully split 8 by 8 table at most 600,000 instructions; stack at most 16,384 bytes a call. No call\n"
-        "allocates.\n", encoding="utf-8")
+        "The least level is asked over the whole sheet, the activity of level 3. Deepest stack of these calls:\n"
+        f"{deepest:,} bytes. Bars: checking the fully split 8 by 8 table at most 600,000 instructions; stack at most\n"
+        "16,384 bytes a call. No call allocates.\n", encoding="utf-8")
     print(f"benchmark: {len(lines) * len(CALLS)} figures, deepest stack {deepest} bytes")
     return 0
 

@@ -31,7 +31,7 @@ def table(rng: Random) -> samples.Table:
 def damaged_tree(rng: Random, tree: List[int]) -> List[int]:
     """A tree with one fault: empty, cut, longer, another byte, a split too deep or equal leaves."""
     kind, tree = rng.randrange(7), list(tree)
-    if kind == 0:
+    if kind == 0 or not tree:
         return []
     if kind == 1:
         return tree[:rng.randrange(len(tree))]

@@ -16,8 +16,8 @@ def build() -> ctypes.CDLL:
     subprocess.run(["rt", "staticlib", "boundary"], cwd=ROOT, check=True, stdout=subprocess.DEVNULL)
     archive = ROOT / "target/staticlib/libboundary.a"
     shared = ROOT / "target/staticlib/libboundary.so"
-    subprocess.run(["gcc", "-shared", "-o", str(shared), "-Wl,--whole-archive", str(archive), "-Wl,--no-whole-archive"],
-                   check=True)
+    whole = ["-Wl,--whole-archive", str(archive), "-Wl,--no-whole-archive"]
+    subprocess.run(["gcc", "-shared", "-o", str(shared), *whole], check=True)
     return ctypes.CDLL(str(shared))
 
 
@@ -45,6 +45,10 @@ def size(x: int) -> ctypes.c_size_t:
     return ctypes.c_size_t(x & MASK)
 
 
+def number(x: int) -> ctypes.c_int64:
+    return ctypes.c_int64(x)
+
+
 def octets(values: Sequence[int]) -> Lent:
     return Lent(ctypes.c_uint8, values)
 
@@ -56,7 +60,7 @@ def numbers(values: Sequence[int]) -> Lent:
 class Library:
     def __init__(self, lib: ctypes.CDLL) -> None:
         self.lib = lib
-        for name in ("least_level", "activity", "table_cause"):
+        for name in ("least_level", "activity", "fresh", "set", "table_cause"):
             getattr(lib, "kiln_" + name).restype = ctypes.c_uint8
 
     def least_level(self, w: int, h: int, tree: Lent, box: Tuple[int, int, int, int]) -> Tuple:
@@ -68,8 +72,24 @@ class Library:
         return ("ok", level.value, visited.value)
 
     def activity(self, w: int, h: int, tree: Lent, level: int, out: Lent) -> Tuple:
-        n = self.lib.kiln_activity(size(w), size(h), tree.pointer(), size(tree.n), size(level), out.pointer(), size(out.n))
+        n = self.lib.kiln_activity(size(w), size(h), tree.pointer(), size(tree.n), size(level), out.pointer(),
+                                   size(out.n))
+        return ("refused", n) if n else ("ok",)
+
+    def fresh(self, w: int, h: int, value: int, tree_out: Lent, numbers_out: Lent) -> Tuple:
+        length = ctypes.c_size_t(0xEEEE)
+        n = self.lib.kiln_fresh(size(w), size(h), number(value), tree_out.pointer(), size(tree_out.n),
+                                numbers_out.pointer(), size(numbers_out.n), ctypes.byref(length))
+        if n:
+            return ("refused", n) if length.value == 0xEEEE else ("wrote", n)
+        return ("ok", length.value)
+
+    def set_coefficient(self, w: int, h: int, tree: Lent, values: Lent, level: int, i: int, j: int,
+                        value: int) -> Tuple:
+        n = self.lib.kiln_set(size(w), size(h), tree.pointer(), size(tree.n), values.pointer(), size(values.n),
+                              size(level), number(i), number(j), number(value))
         return ("refused", n) if n else ("ok",)
 
     def table_cause(self, w: int, h: int, tree: Lent, values: Lent) -> int:
-        return self.lib.kiln_table_cause(size(w), size(h), tree.pointer(), size(tree.n), values.pointer(), size(values.n))
+        return self.lib.kiln_table_cause(size(w), size(h), tree.pointer(), size(tree.n), values.pointer(),
+                                         size(values.n))

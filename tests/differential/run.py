@@ -38,6 +38,33 @@ def activity(rng: Random, lib: Library) -> str:
                   (tree, t.tree), (out, want.lent["activity_out"]))
 
 
+def fresh(rng: Random, lib: Library) -> str:
+    w, h = (rng.choice(tuple(range(1, 9)) * 3 + cases.ODD_SIDES) for _ in range(2))
+    value = rng.choice((0, 1, -7, 700, 32_000, -32_000, 32_001, -32_001, cases.LEAST, cases.GREATEST))
+    tree_lent = [9] * rng.choice((0, 1, 1, 2, 5))
+    numbers_lent = [7] * cases.output_length(rng, cases.all_places(w, h))
+    tree, values = octets(tree_lent), numbers(numbers_lent)
+    got = lib.fresh(w, h, value, tree, values)
+    want = calls.fresh(w, h, value, tree_lent, numbers_lent)
+    return differ(f"fresh {w} {h} {value} {len(tree_lent)} {len(numbers_lent)}", got, want.answer,
+                  (tree, want.lent["tree_out"]), (values, want.lent["coefficients_out"]))
+
+
+def set_coefficient(rng: Random, lib: Library) -> str:
+    t = cases.any_table(rng)
+    level = rng.choice((0, 1, 2, 3, 3, 4, 2**50))
+    side = 8 * 2**min(level, 3)
+    ends = (-3, cases.LEAST, cases.GREATEST)
+    i, j = (rng.choice((rng.randint(-4, side), rng.randint(-4, side), *ends)) for _ in range(2))
+    limit = 32_000 * 64**min(level, 3)
+    value = rng.choice((0, 5, -limit, limit, limit + 1, -limit - 1, cases.LEAST))
+    tree, values = octets(t.tree), numbers(t.coefficients)
+    got = lib.set_coefficient(t.w, t.h, tree, values, level, i, j, value)
+    want = calls.set_coefficient(t.w, t.h, t.tree, t.coefficients, level, i, j, value)
+    return differ(f"set {t.w} {t.h} {t.tree} {level} {i} {j} {value}", got, want.answer,
+                  (tree, t.tree), (values, want.lent["coefficients"]))
+
+
 def table_cause(rng: Random, lib: Library) -> str:
     t = cases.any_table(rng)
     tree, values = octets(t.tree), numbers(t.coefficients)
@@ -47,7 +74,11 @@ def table_cause(rng: Random, lib: Library) -> str:
 
 
 CALLS: Dict[str, Callable[[Random, Library], str]] = {
-    "least_level": least_level, "activity": activity, "table_cause": table_cause,
+    "least_level": least_level,
+    "activity": activity,
+    "fresh": fresh,
+    "set": set_coefficient,
+    "table_cause": table_cause,
 }
 
 

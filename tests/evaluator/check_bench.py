@@ -327,7 +327,7 @@ def main() -> int:
         group(tally.check)
         passed += tally.passed
         failed += len(tally.failed)
-        print("%s: %d passed, %d failed" % (name, tally.passed, len(tally.failed)))
+        print("%s: %d checks, %d faults" % (name, tally.passed + len(tally.failed), len(tally.failed)))
         for words in tally.failed[:20]:
             print("  failed: %s" % words)
     if failed:

@@ -2,7 +2,7 @@
 use mathlib.Core.Path.{_≡_, refl, subst}
 use Prim.Native.Nat.{ℕ}
 use Rattle.surface.specs.Calls.{Answer, refused, gives, LeastLevel}
-use Rattle.boundary.specs.Codes.{codeOf, orGiven, levelOf, visitedOf}
+use Rattle.boundary.specs.Codes.{codeOf, orGiven, levelOf, visitedOf, bytesOf}
 
 -- what the least level call leaves in its parameters
 abbrev pub Told : Answer LeastLevel → ℕ → ℕ → ℕ → ℕ → ℕ → Type 0
@@ -21,3 +21,10 @@ code-done a e = subst (λ o. 0 ≡ codeOf o) e refl
 
 pub code-refused : {A : Type 0} {o : Answer A} (n : ℕ) → refused n ≡ o → n ≡ codeOf o
 code-refused n e = subst (λ o. n ≡ codeOf o) e refl
+
+-- what a call that writes a tree leaves at its length
+pub length-given : {o : Answer ℕ} (n a : ℕ) → gives n ≡ o → (0 ≡ codeOf o) × (n ≡ orGiven bytesOf o a)
+length-given n a e = subst (λ o. (0 ≡ codeOf o) × (n ≡ orGiven bytesOf o a)) e (refl, refl)
+
+pub length-refused : {o : Answer ℕ} (n a : ℕ) → refused n ≡ o → (n ≡ codeOf o) × (a ≡ orGiven bytesOf o a)
+length-refused n a e = subst (λ o. (n ≡ codeOf o) × (a ≡ orGiven bytesOf o a)) e (refl, refl)

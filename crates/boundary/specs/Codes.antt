@@ -17,3 +17,7 @@ levelOf a = a .level
 
 abbrev pub visitedOf : LeastLevel → ℕ
 visitedOf a = a .visited
+
+-- a length is itself
+abbrev pub bytesOf : ℕ → ℕ
+bytesOf n = n

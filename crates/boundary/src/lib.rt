@@ -4,8 +4,8 @@
 ghost use mathlib.Core.Path.{_≡_};
 ghost use Prim.Native.Nat.{ℕ};
 ghost use Rattle.surface.specs.Table.{tableCause};
-ghost use Rattle.surface.specs.Calls.{leastOutcome, activityOutcome};
-ghost use Rattle.boundary.specs.Codes.{codeOf, orGiven, levelOf, visitedOf};
+ghost use Rattle.surface.specs.Calls.{leastOutcome, activityOutcome, freshOutcome, setOutcome};
+ghost use Rattle.boundary.specs.Codes.{codeOf, orGiven, levelOf, visitedOf, bytesOf};
 
 #[no_mangle]
 pub extern "C" fn kiln_least_level(
@@ -48,6 +48,59 @@ pub extern "C" fn kiln_activity(w: usize, h: usize, tree: &[u8], level: usize, o
         × (now (out .exit) ≡ (activityOutcome w h (now (tree .entry)) level (now (out .entry))) .after) ⌝ }
 {
     let r = query::activity_of(w, h, tree, level, out);
+    match r {
+        answers::Outcome::Done => 0,
+        answers::Outcome::Refused(n) => n,
+    }
+}
+
+// Writes a fresh table; `length` receives the tree's length.
+#[no_mangle]
+pub extern "C" fn kiln_fresh(
+    w: usize,
+    h: usize,
+    number: i64,
+    tree_out: &mut [u8],
+    numbers_out: &mut [i64],
+    length: &mut usize,
+) -> u8
+    ensures { λ r. ⌜ (r
+        ≡ codeOf ((freshOutcome w h number (now («tree_out» .entry)) (now («numbers_out» .entry))) .result))
+        × (now («tree_out» .exit)
+        ≡ (freshOutcome w h number (now («tree_out» .entry)) (now («numbers_out» .entry))) .tree)
+        × (now («numbers_out» .exit)
+        ≡ (freshOutcome w h number (now («tree_out» .entry)) (now («numbers_out» .entry))) .numbers)
+        × (now (length .exit)
+        ≡ orGiven bytesOf ((freshOutcome w h number (now («tree_out» .entry)) (now («numbers_out» .entry))) .result)
+        (now (length .entry))) ⌝ }
+{
+    let r = edit::fresh(w, h, number, tree_out, numbers_out);
+    match r {
+        answers::Length::Bytes(n) => {
+            *length = n;
+            0
+        }
+        answers::Length::Refused(n) => n,
+    }
+}
+
+#[no_mangle]
+pub extern "C" fn kiln_set(
+    w: usize,
+    h: usize,
+    tree: &[u8],
+    numbers: &mut [i64],
+    level: usize,
+    i: i64,
+    j: i64,
+    number: i64,
+) -> u8
+    ensures { λ r. ⌜ (r
+        ≡ codeOf ((setOutcome w h (now (tree .entry)) (now (numbers .entry)) level i j number) .result))
+        × (now (numbers .exit)
+        ≡ (setOutcome w h (now (tree .entry)) (now (numbers .entry)) level i j number) .after) ⌝ }
+{
+    let r = edit::set(w, h, tree, numbers, level, i, j, number);
     match r {
         answers::Outcome::Done => 0,
         answers::Outcome::Refused(n) => n,

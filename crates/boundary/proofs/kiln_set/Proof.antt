@@ -1,0 +1,50 @@
+use mathlib.Core.Path.{sym, ap, _∙_}
+use mir.Syntax.{w64}
+use mir.ValLaws.{toZ-ofZ}
+use Rattle.answers.specs.Answers.{outcomeAnswer}
+use Rattle.boundary.proofs.CodeLaws.{code-done, code-refused}
+use borrow.Author.Needs.{needs}
+use Rattle.boundary.proofs.kiln_set.Statement.{statement}
+use Rattle.boundary.proofs.kiln_set.Tie as tie
+
+set-requires : tie.Need-set-requires
+set-requires c κs = search needs
+
+enum-told : tie.Need-enum-told
+enum-told c = search needs
+
+enum-known-r : tie.Need-enum-known-r
+enum-known-r c = search needs
+
+same-length : tie.Need-same-length
+same-length c = search needs
+
+returns : tie.Need-returns
+returns c =
+    let s = c .before .before .before .before .before .before in
+    let e = rw (
+      toZ-ofZ w64 (s .args .i) (s .fits .i),
+      toZ-ofZ w64 (s .args .j) (s .fits .j),
+      toZ-ofZ w64
+          (s .args .number) (s .fits .number),
+    ) at (c .before .before .before .set .ensures) in
+    (code-done tt (ap outcomeAnswer (sym (c .enum-told .given .1)) ∙ e .0), e .1)
+
+same-length-2 : tie.Need-same-length-2
+same-length-2 c = search needs
+
+returns-2 : tie.Need-returns-2
+returns-2 c =
+    let s = c .before .before .before .before .before .before .before in
+    let e = rw (
+      toZ-ofZ w64 (s .args .i) (s .fits .i),
+      toZ-ofZ w64 (s .args .j) (s .fits .j),
+      toZ-ofZ w64
+          (s .args .number) (s .fits .number),
+    ) at (c .before .before .before .before .set .ensures) in
+    (code-refused (c .before .r .given .0 .0) (ap outcomeAnswer (sym (c .before .r .given .1)) ∙ e .0), e .1)
+
+pub kiln-set-spec : {M : Type 1} → statement M
+kiln-set-spec =
+    tie.close
+    (tie.spec set-requires enum-told enum-known-r same-length returns same-length-2 returns-2)

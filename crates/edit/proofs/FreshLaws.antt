@@ -1,0 +1,144 @@
+-- The causes and the outcome of `fresh`, and the slice of a fresh table.
+use mathlib.Core.Path.{_≡_, refl, sym, ap, ap₂, _∙_, subst}
+use mathlib.Core.Bool.{Bool, true, false, not, _&&_}
+use mathlib.Core.List.{List, [], _∷_, _++_, append-nil}
+use Prim.Native.Nat.{ℕ, zero, suc, _+_, _-_, _*_, _≤_, _<_}
+use native.Mathlib.Nat.{mul-comm}
+use native.Mathlib.Omega.{arith}
+use borrow.Author.Tests.{ltb-false, eqb-true}
+use lib.Dec.{ltb, eqb}
+use lib.IntN.{ℤ, pos, natAbs}
+use lib.ListN.{length, getD, take, drop, replicate, getD-replicate, length-replicate, replicate-append-replicate}
+use lib.Seq.{ext-getD, length-take-le, take-length, drop-length, take-at, drop-at}
+use Rattle.finite.specs.Range.{grid}
+use Rattle.finite.proofs.Table.{length-grid, getD-grid, place-split}
+use Rattle.surface.specs.Sheet.{goodSide, functions}
+use Rattle.surface.specs.Table.{cause, _orElse_, places, slots, limit, sliceFrom, sliceOf}
+use Rattle.surface.specs.Calls.{Answer, refused, gives, answer, afterwards, put, lengthCause, treeOutCause}
+use Rattle.surface.specs.Calls.{freshCause, freshCoefficients, freshOutcome}
+use Rattle.surface.proofs.Least.{both}
+use Rattle.surface.proofs.TableLaws.{orElse-none, cause-none, good-side}
+use Rattle.coefficients.proofs.Sizes.{starts}
+
+-- ---- the slice
+
+-- a grid of one value is that value over and over
+grid-const : (n m : ℕ) (x : ℤ) → grid n m (λ a b. x) ≡ replicate (n * m) x
+grid-const n m x =
+    ext-getD (pos 0) (grid n m (λ a b. x)) (replicate (n * m) x)
+    (length-grid n m (λ a b. x) ∙ mul-comm m n ∙ sym (length-replicate (n * m) x))
+    λ p h.
+    let l : p < m * n = subst (λ k. p < k) (length-grid n m (λ a b. x)) h in
+    let s = place-split n m p l in
+    ap (λ k. getD (grid n m (λ a b. x)) k (pos 0)) (s .4)
+    ∙ getD-grid n m (λ a b. x) (s .0) (s .1) (pos 0) (s .2) (s .3)
+    ∙ sym (getD-replicate (n * m) p x (pos 0) (subst (λ k. p < k) (mul-comm m n) l))
+
+grid-more : (n m k : ℕ) (x : ℤ) (rest : List ℤ) → rest ≡ replicate k x
+    → grid n m (λ a b. x) ++ rest ≡ replicate (n * m + k) x
+grid-more n m k x rest e = ap₂ _++_ (grid-const n m x) e ∙ replicate-append-replicate (n * m) k x
+
+fresh-slice : (W H : ℕ) (number : ℤ)
+    → replicate (places W H 0) number ++ replicate (slots W H - places W H 0) (pos 0)
+    ≡ sliceOf W H (freshCoefficients number)
+unfolding sliceFrom
+fresh-slice W H number =
+    let finer = grid-more (functions W 1) (functions H 1) (places W H 2 + (places W H 3 + 0)) (pos 0) _
+    (grid-more (functions W 2) (functions H 2) (places W H 3 + 0) (pos 0) _
+    (grid-more (functions W 3) (functions H 3) 0 (pos 0) [] refl)) in
+    let rest : slots W H - places W H 0 ≡ places W H 1 + (places W H 2 + (places W H 3 + 0)) =
+    omega (arith, starts W H .4) in
+    ap₂ _++_ (sym (grid-const (functions W 0) (functions H 0) number))
+    (ap (λ k. replicate k (pos 0)) rest ∙ sym finer)
+
+-- with k the places of level 0 and n the slice's length
+pub fresh-spread : (W H : ℕ) (number z : ℤ) (k n : ℕ) → k ≡ places W H 0 → z ≡ number → n ≡ slots W H
+    → replicate k z ++ replicate (n - k) (pos 0) ≡ sliceOf W H (freshCoefficients number)
+fresh-spread W H number z k n e f g =
+    ap₂ (λ k z. replicate k z ++ replicate (n - k) (pos 0)) e f
+    ∙ ap (λ n. replicate (places W H 0) number ++ replicate (n - places W H 0) (pos 0)) g
+    ∙ fresh-slice W H number
+
+-- ---- the slice in two steps: one number at its first k places, then 0 at the others
+
+module _ (k : ℕ) (number : ℤ) where
+  pub spread-first : (xs x : List ℤ) (j : ℕ) → k ≤ length xs → j ≡ k
+      → x ≡ replicate (length (take j (drop 0 xs))) number
+      → take 0 xs ++ (x ++ drop j (drop 0 xs)) ≡ replicate k number ++ drop k xs
+  spread-first xs x j h e p =
+      ap₂ _++_ (p ∙ ap (λ i. replicate i number) (ap (λ j. length (take j xs)) e ∙ length-take-le k xs h))
+      (ap (λ j. drop j xs) e)
+
+  pub spread-rest : (ys zs y : List ℤ) (m : ℕ) → ys ≡ replicate k number ++ zs → m ≡ length zs
+      → y ≡ replicate (length (take m (drop k ys))) (pos 0)
+      → take k ys ++ (y ++ drop m (drop k ys)) ≡ replicate k number ++ replicate (length zs) (pos 0)
+  spread-rest ys zs y m e l p =
+      let front : take k ys ≡ replicate k number =
+      ap (take k) e ∙ take-at (replicate k number) zs k (length-replicate k number) in
+      let back : drop k ys ≡ zs = ap (drop k) e ∙ drop-at (replicate k number) zs k (length-replicate k number) in
+      let new : y ≡ replicate (length zs) (pos 0) =
+      p ∙ ap (λ t. replicate (length t) (pos 0)) (ap₂ take l back ∙ take-length zs) in
+      ap₂ _++_ front
+      (ap₂ _++_ new (ap₂ drop l back ∙ drop-length zs) ∙ append-nil (replicate (length zs) (pos 0)))
+
+-- ---- the cause, by its tests
+
+abbrev pub fresh : Bool → Bool → Bool → Bool → ℕ
+fresh g p n t = cause 1 (not g) orElse cause 10 p orElse cause 16 (not n) orElse cause 17 t
+
+module _ (W H : ℕ) (number : ℤ) (tree : List ℕ) (numbers : List ℤ) where
+  pub fresh-by : (g p n t : Bool) → g ≡ (goodSide W && goodSide H) → p ≡ ltb (limit 0) (natAbs number)
+      → n ≡ eqb (length numbers) (slots W H) → t ≡ ltb (length tree) 1
+      → fresh g p n t ≡ freshCause W H number tree numbers
+  fresh-by g p n t e q r s =
+      ap (λ g. fresh g p n t) e
+      ∙ ap (λ p. fresh (goodSide W && goodSide H) p n t) q
+      ∙ ap₂ (fresh (goodSide W && goodSide H) (ltb (limit 0) (natAbs number))) r s
+
+  -- no cause
+  pub fresh-none : 0 ≡ freshCause W H number tree numbers
+      → (W ≤ 8) × (H ≤ 8) × (length numbers ≡ slots W H) × (0 < length tree)
+  fresh-none e =
+      let c10 = cause 10 (ltb (limit 0) (natAbs number)) in
+      let c16 = lengthCause (slots W H) numbers in
+      let c17 = treeOutCause (0 ∷ []) tree in
+      let e1 = orElse-none (cause 1 (not (goodSide W && goodSide H))) (c10 orElse c16 orElse c17) (sym e) in
+      let e10 = orElse-none c10 (c16 orElse c17) (e1 .1) in
+      let e16 = orElse-none c16 c17 (e10 .1) in
+      let sides = both (goodSide W) (goodSide H) (cause-none 0 (goodSide W && goodSide H) (e1 .0)) in (
+        good-side W (sides .0) .1,
+        good-side H (sides .1) .1,
+        eqb-true (length numbers) (slots W H) (cause-none 15 (eqb (length numbers) (slots W H)) (e16 .0)),
+        long (ltb (length tree) 1) refl (e16 .1),
+      )
+    where
+      long : (t : Bool) → ltb (length tree) 1 ≡ t → cause 17 t ≡ 0 → 0 < length tree
+      long true e c = absurd (omega arith)
+      long false e c = omega (arith, ltb-false (length tree) 1 e)
+
+  -- ---- the outcome
+
+  pub fresh-refused : (c : ℕ) → c ≡ freshCause W H number tree numbers → (c ≡ 0 → ⊥)
+      → (refused c ≡ (freshOutcome W H number tree numbers) .result)
+      × (tree ≡ (freshOutcome W H number tree numbers) .tree)
+      × (numbers ≡ (freshOutcome W H number tree numbers) .numbers)
+  unfolding freshOutcome
+  fresh-refused c e h =
+      subst (λ k. (_≡_ {A = Answer ℕ} (refused c) (answer k 1)) × (tree ≡ afterwards k tree (put (0 ∷ []) tree))
+      × (numbers ≡ afterwards k numbers (sliceOf W H (freshCoefficients number)))) e (go c h)
+    where
+      go : (c : ℕ) → (c ≡ 0 → ⊥)
+          → (_≡_ {A = Answer ℕ} (refused c) (answer c 1)) × (tree ≡ afterwards c tree (put (0 ∷ []) tree))
+          × (numbers ≡ afterwards c numbers (sliceOf W H (freshCoefficients number)))
+      go zero h = absurd (h refl)
+      go (suc c) h = (refl, refl, refl)
+
+  pub fresh-done : (t : List ℕ) (n : List ℤ) → 0 ≡ freshCause W H number tree numbers → t ≡ 0 ∷ drop 1 tree
+      → n ≡ sliceOf W H (freshCoefficients number)
+      → (gives 1 ≡ (freshOutcome W H number tree numbers) .result)
+      × (t ≡ (freshOutcome W H number tree numbers) .tree)
+      × (n ≡ (freshOutcome W H number tree numbers) .numbers)
+  unfolding freshOutcome
+  fresh-done t n e p q =
+      subst (λ k. (_≡_ {A = Answer ℕ} (gives 1) (answer k 1)) × (t ≡ afterwards k tree (put (0 ∷ []) tree))
+      × (n ≡ afterwards k numbers (sliceOf W H (freshCoefficients number)))) e (refl, p, q)

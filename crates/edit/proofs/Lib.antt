@@ -1,0 +1,3 @@
+pub mod FreshLaws
+pub mod SetLaws
+pub mod SignedLaws

@@ -1,0 +1,204 @@
+// The calls that write a table's coefficients: a fresh table, and one coefficient set.
+ghost use mathlib.Core.Path.{_≡_};
+ghost use mathlib.Core.Bool.{true, _&&_};
+ghost use mathlib.Core.List.{_++_};
+ghost use Prim.Native.Nat.{_-_, _≤_, _<_};
+ghost use lib.Dec.{ltb};
+ghost use lib.IntN.{pos, natAbs};
+ghost use lib.ListN.{length, replicate};
+ghost use Rattle.surface.specs.Sheet.{goodSide, functions};
+ghost use Rattle.surface.specs.Support.{active};
+ghost use Rattle.surface.specs.Table.{limit, treeOf, formed, levels};
+ghost use Rattle.surface.specs.Calls.{freshCause, freshOutcome, indexFits, setCause, setOutcome};
+ghost use Rattle.surface.specs.Calls as Calls;
+ghost use Rattle.answers.specs.Answers.{lengthAnswer, outcomeAnswer};
+
+// Whether both sides are 1 to 8.
+fn good_sides(w: usize, h: usize) -> bool
+    ensures { λ r. ⌜ r ≡ (goodSide w && goodSide h) ⌝ }
+{
+    if w < 1 {
+        return false;
+    }
+    if 8 < w {
+        return false;
+    }
+    if h < 1 {
+        return false;
+    }
+    h <= 8
+}
+
+// Whether a number is past its level's limit, above or below.
+fn past(number: i64, level: usize) -> bool
+    requires { ⌜ level ≤ 3 ⌝ }
+    ensures { λ r. ⌜ r ≡ ltb (limit level) (natAbs number) ⌝ }
+{
+    let limit = coefficients::limit(level);
+    if limit < number {
+        return true;
+    }
+    number < 0 - limit
+}
+
+// The lowest cause that refuses a fresh table, or 0.
+fn fresh_cause(w: usize, h: usize, number: i64, tree: &[u8], numbers: &[i64]) -> u8
+    ensures { λ r. ⌜ r ≡ freshCause w h number (now (tree .entry)) (now (numbers .entry)) ⌝ }
+{
+    if good_sides(w, h) {
+        if past(number, 0) {
+            return 10;
+        }
+        let slots = coefficients::start(w, h, 4);
+        if numbers.len() != slots {
+            return 16;
+        }
+        if tree.len() < 1 {
+            return 17;
+        }
+        return 0;
+    }
+    1
+}
+
+// One number at the first places of a slice, and 0 at the others.
+fn spread(numbers: &mut [i64], coarse: usize, number: i64)
+    requires { ⌜ coarse ≤ length (now numbers) ⌝ }
+    ensures { λ r. ⌜ now (numbers .exit)
+        ≡ replicate coarse number ++ replicate (length (now (numbers .entry)) - coarse) (pos 0) ⌝ }
+{
+    coefficients::fill::fill(&mut numbers[0..coarse], number);
+    coefficients::fill::fill(&mut numbers[coarse..], 0);
+}
+
+// A fresh table: the tree is the one byte 0, and all level 0 coefficients are one number.
+pub fn fresh(
+    w: usize,
+    h: usize,
+    number: i64,
+    tree_out: &mut [u8],
+    numbers_out: &mut [i64],
+) -> answers::Length
+    ensures { λ r. ⌜ (lengthAnswer r
+        ≡ (freshOutcome w h number (now («tree_out» .entry)) (now («numbers_out» .entry))) .result)
+        × (now («tree_out» .exit)
+        ≡ (freshOutcome w h number (now («tree_out» .entry)) (now («numbers_out» .entry))) .tree)
+        × (now («numbers_out» .exit)
+        ≡ (freshOutcome w h number (now («tree_out» .entry)) (now («numbers_out» .entry))) .numbers) ⌝ }
+{
+    let cause = fresh_cause(w, h, number, tree_out, numbers_out);
+    if cause != 0 {
+        return answers::Length::Refused(cause);
+    }
+    let coarse = coefficients::places(w, h, 0);
+    spread(numbers_out, coarse, number);
+    tree_out[0] = 0;
+    answers::Length::Bytes(1)
+}
+
+// Whether i is one of the functions of a level along a side of n cells.
+fn index_fits(n: usize, level: usize, i: i64) -> bool
+    requires { ⌜ (n ≤ 8) × (level ≤ 3) ⌝ }
+    ensures { λ r. ⌜ r ≡ indexFits n level i ⌝ }
+{
+    if i < -3 {
+        return false;
+    }
+    let cells = coefficients::functions(n, level) - 3;
+    i < cells as i64
+}
+
+// The index of function i, from 0 on.
+fn index(n: usize, level: usize, i: i64) -> usize
+    requires { ⌜ (n ≤ 8) × (level ≤ 3) × (indexFits n level i ≡ true) ⌝ }
+    ensures { λ r. ⌜ (r ≡ Calls.index i) × (r < functions n level) ⌝ }
+{
+    (i + 3) as usize
+}
+
+// Whether the function with these indices is active.
+fn is_active(t: &[u8], w: usize, h: usize, level: usize, a: usize, b: usize) -> bool
+    requires { ⌜ (0 < w) × (w ≤ 8) × (h ≤ 8) × (level ≤ 3) × (a < functions w level) × (b < functions h level)
+        × (formed w h (treeOf (now t)) ≡ true) ⌝ }
+    ensures { λ r. ⌜ r ≡ active w h (levels (now (t .entry))) level a b ⌝ }
+{
+    let n = coefficients::functions(w, level);
+    let map = quadtree::paint::paint(t);
+    let minima = activity::row_minima(&map, w, h, level, n);
+    let least = activity::support_minima(&minima, h, level, b);
+    least[a] == level as u8
+}
+
+// Whether (i, j) is an active function of the level.
+fn settable(t: &[u8], w: usize, h: usize, level: usize, i: i64, j: i64) -> bool
+    requires { ⌜ (0 < w) × (w ≤ 8) × (h ≤ 8) × (level ≤ 3) × (formed w h (treeOf (now t)) ≡ true) ⌝ }
+    ensures { λ r. ⌜ r ≡ (indexFits w level i
+        && indexFits h level j
+        && active w h (levels (now (t .entry))) level (Calls.index i) (Calls.index j)) ⌝ }
+{
+    if index_fits(w, level, i) {
+        if index_fits(h, level, j) {
+            let a = index(w, level, i);
+            let b = index(h, level, j);
+            return is_active(t, w, h, level, a, b);
+        }
+    }
+    false
+}
+
+// The lowest cause that refuses a set, or 0.
+fn set_cause(
+    w: usize,
+    h: usize,
+    t: &[u8],
+    cs: &[i64],
+    level: usize,
+    i: i64,
+    j: i64,
+    number: i64,
+) -> u8
+    ensures { λ r. ⌜ r ≡ setCause w h (now (t .entry)) (now (cs .entry)) level i j number ⌝ }
+{
+    let cause = table::cause::table_cause(w, h, t, cs);
+    if cause != 0 {
+        return cause;
+    }
+    if 3 < level {
+        return 8;
+    }
+    if settable(t, w, h, level, i, j) {
+        if past(number, level) {
+            return 10;
+        }
+        return 0;
+    }
+    9
+}
+
+// Sets one active coefficient: function (i, j) of a level, i and j from -3 on.
+pub fn set(
+    w: usize,
+    h: usize,
+    tree: &[u8],
+    numbers: &mut [i64],
+    level: usize,
+    i: i64,
+    j: i64,
+    number: i64,
+) -> answers::Outcome
+    ensures { λ r. ⌜ (outcomeAnswer r
+        ≡ (setOutcome w h (now (tree .entry)) (now (numbers .entry)) level i j number) .result)
+        × (now (numbers .exit)
+        ≡ (setOutcome w h (now (tree .entry)) (now (numbers .entry)) level i j number) .after) ⌝ }
+{
+    let cause = set_cause(w, h, tree, numbers, level, i, j, number);
+    if cause != 0 {
+        return answers::Outcome::Refused(cause);
+    }
+    let n = coefficients::functions(w, level);
+    let a = index(w, level, i);
+    let b = index(h, level, j);
+    let at = coefficients::start(w, h, level) + (b * n + a);
+    numbers[at] = number;
+    answers::Outcome::Done
+}
