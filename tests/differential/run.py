@@ -9,7 +9,7 @@ import sys
 sys.dont_write_bytecode = True
 
 from random import Random
-from typing import Callable, Dict
+from typing import Callable, Dict, List
 
 import cases
 from cases import calls
@@ -82,6 +82,31 @@ CALLS: Dict[str, Callable[[Random, Library], str]] = {
 }
 
 
+def bench_sheet(lib: Library) -> List[str]:
+    """Document 01's bench cases that belong to these calls, with the answers that it gives."""
+    flat, refined = octets([0]), octets([4, 4, 4, 1] + [0] * 9)
+    level_1 = [0] * 16 + [2_048_000] * 25 + [0] * 170
+    over = [0] * 16 + [2_048_001] + [0] * 194
+    marks = [octets([9] * 25), octets([9] * 20), octets([9] * 35)]
+    checks = (
+        ("32,000 accepted", lib.table_cause(1, 1, flat, numbers([32_000] * 16 + [0] * 195)), 0),
+        ("32,001 gives 4", lib.table_cause(1, 1, flat, numbers([0] * 15 + [32_001] + [0] * 195)), 4),
+        ("level 1: 2,048,000 accepted", lib.table_cause(1, 1, refined, numbers(level_1)), 0),
+        ("level 1: 2,048,001 gives 4", lib.table_cause(1, 1, refined, numbers(over)), 4),
+        ("least level 1, 4 nodes", lib.least_level(1, 1, refined, (0, 0, 4, 4)), ("ok", 1, 4)),
+        ("least level 0, 5 nodes", lib.least_level(2, 1, refined, (0, 0, 8, 4)), ("ok", 0, 5)),
+        ("box 0,0 to 5,4 gives 7", lib.least_level(1, 1, flat, (0, 0, 5, 4)), ("refused", 7)),
+        ("tree 4 0 0 0 0 gives 2", lib.least_level(8, 8, octets([4, 0, 0, 0, 0]), (0, 0, 4, 4)), ("refused", 2)),
+        ("tree 1 on 1 by 1 gives 2", lib.least_level(1, 1, octets([1]), (0, 0, 4, 4)), ("refused", 2)),
+        ("tree 1 on 8 by 8 accepted", lib.least_level(8, 8, octets([1]), (0, 0, 4, 4)), ("ok", 1, 1)),
+        ("activity 1 by 1", lib.activity(1, 1, refined, 1, marks[0]), ("ok",)),
+        ("activity 2 by 1, level 0", lib.activity(2, 1, refined, 0, marks[1]), ("ok",)),
+        ("activity 2 by 1, level 1", lib.activity(2, 1, refined, 1, marks[2]), ("ok",)),
+        ("25, 16 and 10 active", [sum(m.values()) for m in marks], [25, 16, 10]),
+    )
+    return [f"{words}: {got}" for words, got, want in checks if got != want]
+
+
 def differ(words: str, got, want, *buffers) -> str:
     """Empty where the answer, the buffers and the guards are as they should be."""
     if got != want:
@@ -98,7 +123,10 @@ def main() -> int:
     total = int(sys.argv[1]) if len(sys.argv) > 1 else 3_000
     seed = int(sys.argv[2]) if len(sys.argv) > 2 else SEED
     lib = Library(build())
-    faults, names = 0, list(CALLS)
+    wrong = bench_sheet(lib)
+    for words in wrong:
+        print(f"bench sheet: {words}")
+    faults, names = len(wrong), list(CALLS)
     for k in range(total):
         name = names[k % len(names)]
         fault = CALLS[name](Random(seed * 1_000_003 + k), lib)
