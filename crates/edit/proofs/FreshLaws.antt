@@ -8,10 +8,10 @@ use native.Mathlib.Omega.{arith}
 use borrow.Author.Tests.{ltb-false, eqb-true}
 use lib.Dec.{ltb, eqb}
 use lib.IntN.{ℤ, pos, natAbs}
-use lib.ListN.{length, getD, take, drop, replicate, getD-replicate, length-replicate, replicate-append-replicate}
-use lib.Seq.{ext-getD, length-take-le, take-length, drop-length, take-at, drop-at}
+use lib.ListN.{length, take, drop, replicate, length-replicate, replicate-append-replicate}
+use lib.Seq.{length-take-le, take-length, drop-length, take-at, drop-at}
 use Rattle.finite.specs.Range.{grid}
-use Rattle.finite.proofs.Table.{length-grid, getD-grid, place-split}
+use Rattle.finite.proofs.Table.{grid-const}
 use Rattle.surface.specs.Sheet.{goodSide, functions}
 use Rattle.surface.specs.Table.{cause, _orElse_, places, slots, limit, sliceFrom, sliceOf}
 use Rattle.surface.specs.Calls.{Answer, refused, gives, answer, afterwards, put, lengthCause, treeOutCause}
@@ -22,21 +22,13 @@ use Rattle.coefficients.proofs.Sizes.{starts}
 
 -- ---- the slice
 
--- a grid of one value is that value over and over
-grid-const : (n m : ℕ) (x : ℤ) → grid n m (λ a b. x) ≡ replicate (n * m) x
-grid-const n m x =
-    ext-getD (pos 0) (grid n m (λ a b. x)) (replicate (n * m) x)
-    (length-grid n m (λ a b. x) ∙ mul-comm m n ∙ sym (length-replicate (n * m) x))
-    λ p h.
-    let l : p < m * n = subst (λ k. p < k) (length-grid n m (λ a b. x)) h in
-    let s = place-split n m p l in
-    ap (λ k. getD (grid n m (λ a b. x)) k (pos 0)) (s .4)
-    ∙ getD-grid n m (λ a b. x) (s .0) (s .1) (pos 0) (s .2) (s .3)
-    ∙ sym (getD-replicate (n * m) p x (pos 0) (subst (λ k. p < k) (mul-comm m n) l))
+-- a grid of one value, by columns and rows
+grid-value : (n m : ℕ) (x : ℤ) → grid n m (λ a b. x) ≡ replicate (n * m) x
+grid-value n m x = grid-const n m x ∙ ap (λ k. replicate k x) (mul-comm m n)
 
 grid-more : (n m k : ℕ) (x : ℤ) (rest : List ℤ) → rest ≡ replicate k x
     → grid n m (λ a b. x) ++ rest ≡ replicate (n * m + k) x
-grid-more n m k x rest e = ap₂ _++_ (grid-const n m x) e ∙ replicate-append-replicate (n * m) k x
+grid-more n m k x rest e = ap₂ _++_ (grid-value n m x) e ∙ replicate-append-replicate (n * m) k x
 
 fresh-slice : (W H : ℕ) (number : ℤ)
     → replicate (places W H 0) number ++ replicate (slots W H - places W H 0) (pos 0)
@@ -48,7 +40,7 @@ fresh-slice W H number =
     (grid-more (functions W 3) (functions H 3) 0 (pos 0) [] refl)) in
     let rest : slots W H - places W H 0 ≡ places W H 1 + (places W H 2 + (places W H 3 + 0)) =
     omega (arith, starts W H .4) in
-    ap₂ _++_ (sym (grid-const (functions W 0) (functions H 0) number))
+    ap₂ _++_ (sym (grid-value (functions W 0) (functions H 0) number))
     (ap (λ k. replicate k (pos 0)) rest ∙ sym finer)
 
 -- with k the places of level 0 and n the slice's length

@@ -2,36 +2,18 @@
 use mathlib.Core.Path.{_≡_, refl, sym, ap, ap₂, _∙_, subst}
 use mathlib.Core.Bool.{Bool, true, false, not, _&&_, and-false}
 use mathlib.Core.List.{List}
-use Prim.Native.Nat.{ℕ, zero, suc, _+_, _*_, _/_, _%_, _≤_, _<_}
+use Prim.Native.Nat.{ℕ, zero, suc, _+_, _*_, _≤_, _<_}
 use native.Mathlib.Omega.{arith}
 use borrow.Author.Tests.{ltb-false}
 use lib.Dec.{ltb}
 use lib.IntN.{ℤ, natAbs}
 use lib.ListN.{length, set}
-use Rattle.finite.proofs.Table.{getD-table}
 use Rattle.surface.specs.Sheet.{functions}
-use Rattle.surface.specs.Support.{leastUnder, active}
+use Rattle.surface.specs.Support.{active}
 use Rattle.surface.specs.Table.{cause, _orElse_, treeOf, formed, levels, start, slots, place, limit, tableCause}
 use Rattle.surface.specs.Calls.{Answer, refused, gives, answer, afterwards, indexFits, index, setCause, setOutcome}
-use Rattle.surface.proofs.Least.{both, leastUnder-cong}
+use Rattle.surface.proofs.Least.{both}
 use Rattle.surface.proofs.TableLaws.{orElse-none, cause-none, good-side, sound, tree-formed, place-in-slice}
-use Rattle.quadtree.specs.Paint.{levelMap}
-use Rattle.activity.specs.Minima.{levelsOf}
-
--- ---- the function is active, by the map of levels
-
--- the map gives the tree's level at each quarter square
-map-level : (t : List ℕ) (q r : ℕ) → q < 32 → r < 32 → levelsOf (levelMap t) q r ≡ levels t q r
-unfolding levelMap
-map-level t q r hq hr =
-    getD-table 0 1024 (λ p. levels t (p % 32) (p / 32)) (r * 32 + q) 0 (omega arith)
-    ∙ ap₂ (levels t) (omega arith) (omega arith)
-
-pub least-level : (W H : ℕ) (t map : List ℕ) (L a b : ℕ) → W ≤ 8 → H ≤ 8 → map ≡ levelMap t
-    → leastUnder W H (levelsOf map) L a b ≡ leastUnder W H (levels t) L a b
-least-level W H t map L a b hW hH e =
-    leastUnder-cong W H (levelsOf map) (levels t)
-    (λ q r hq hr. ap (λ m. levelsOf m q r) e ∙ map-level t q r (omega arith) (omega arith)) L a b
 
 -- ---- the function can be set, by the tests of its indices
 

@@ -6,7 +6,7 @@ use native.Mathlib.Nat.{add-zero, zero-add, add-suc, suc-add, zero-mul, mul-zero
 use native.Mathlib.Nat.{le-of-suc-le-suc, not-suc-le-zero, mul-le-mul-right, eq-of-mul-eq-mul-right}
 use native.Mathlib.Nat.{mod-lt, mod-eq-of-lt, div-add-mod', mul-add-mod-self-right, div-lt-iff-lt-mul}
 use native.Mathlib.Omega.{arith}
-use lib.ListN.{length, getD, length-append, List·getD-append}
+use lib.ListN.{length, getD, replicate, length-append, length-replicate, getD-replicate, List·getD-append}
 use lib.Seq.{getD-append-add, ext-getD}
 use Rattle.finite.specs.Range.{tableFrom, rowsFrom, grid}
 
@@ -116,3 +116,15 @@ module _ {A : Type 0} where
       same i h =
           let s = place-split n m i (rw (length-grid n m f) at h) in
           rw (s .4) (getD-grid n m f (s .0) (s .1) d (s .2) (s .3))
+
+  -- a grid of one value is that value over and over
+  pub grid-const : (n m : ℕ) (x : A) → grid n m (λ a b. x) ≡ replicate (m * n) x
+  grid-const n m x =
+      ext-getD x (grid n m (λ a b. x)) (replicate (m * n) x)
+      (length-grid n m (λ a b. x) ∙ sym (length-replicate (m * n) x))
+      λ i h.
+      let l : i < m * n = rw (length-grid n m (λ a b. x)) at h in
+      let s = place-split n m i l in
+      ap (λ k. getD (grid n m (λ a b. x)) k x) (s .4)
+      ∙ getD-grid n m (λ a b. x) (s .0) (s .1) x (s .2) (s .3)
+      ∙ sym (getD-replicate (m * n) i x x l)

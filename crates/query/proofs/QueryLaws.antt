@@ -2,24 +2,23 @@
 use mathlib.Core.Path.{_≡_, refl, sym, ap, ap₂, _∙_}
 use mathlib.Core.Bool.{Bool, true, false, not, _&&_, cond}
 use mathlib.Core.List.{List}
-use Prim.Native.Nat.{ℕ, zero, suc, _+_, _*_, _/_, _%_, _≤_, _<_}
-use native.Mathlib.Omega.{arith}
+use Prim.Native.Nat.{ℕ, zero, suc, _≤_, _<_}
 use borrow.Author.Tests.{ltb-true, leb-true, lt-ltb, le-ltb, eq-eqb, ne-eqb}
 use lib.Dec.{leb, ltb, eqb}
 use lib.ListN.{length}
-use Rattle.finite.proofs.Table.{getD-table, grid-cong}
+use Rattle.finite.proofs.Table.{grid-cong}
 use Rattle.surface.specs.Sheet.{Box, functions, quarters}
 use Rattle.surface.specs.Quadtree.{visits}
 use Rattle.surface.specs.Support.{active, leastWhere, inBox}
 use Rattle.surface.specs.Table.{cause, _orElse_, treeOf, regionsOf, levels, places, regionCause}
 use Rattle.surface.specs.Calls.{refused, gives, answer, afterwards, boxCause, LeastLevel, leastOutcome}
 use Rattle.surface.specs.Calls.{activityBytes, activityCause, activityOutcome}
-use Rattle.surface.proofs.Least.{both, leastUnder-cong}
+use Rattle.surface.proofs.Least.{both}
 use Rattle.surface.proofs.TableLaws.{cause-none}
 use Rattle.quadtree.specs.Paint.{levelMap}
 use Rattle.quadtree.specs.Visit.{InSheet, LeastUnder}
-use Rattle.activity.specs.Minima.{levelsOf}
 use Rattle.activity.specs.Mark.{levelMarks, activeMark}
+use Rattle.table.proofs.CauseLaws.{map-least}
 
 -- ---- causes and answers
 
@@ -134,12 +133,6 @@ module _ (W H : ℕ) (t : List ℕ) (L : ℕ) (out : List ℕ) where
 
 -- ---- the map of levels in place of the tree
 
-map-level : (t : List ℕ) (q r : ℕ) → q < 32 → r < 32 → levelsOf (levelMap t) q r ≡ levels t q r
-unfolding levelMap
-map-level t q r hq hr =
-    getD-table 0 1024 (λ p. levels t (p % 32) (p / 32)) (r * 32 + q) 0 (omega arith)
-    ∙ ap₂ (levels t) (omega arith) (omega arith)
-
 -- the marks under the map are the bytes under the tree
 pub marks : (W H : ℕ) (t : List ℕ) (L : ℕ) (map new : List ℕ) → W ≤ 8 → H ≤ 8 → map ≡ levelMap t
     → new ≡ levelMarks W H L map → new ≡ activityBytes W H t L
@@ -148,5 +141,4 @@ marks W H t L map new hW hH e m =
     m
     ∙ grid-cong (functions W L) (functions H L) (activeMark W H L map) (λ a b. cond (active W H (levels t) L a b) 1 0)
     λ a b _ _. ap (λ l. cond (eqb l L) 1 0)
-    (leastUnder-cong W H (levelsOf map) (levels t)
-    (λ q r hq hr. ap (λ m. levelsOf m q r) e ∙ map-level t q r (omega arith) (omega arith)) L a b)
+    (map-least W H t map L a b hW hH e)

@@ -1,20 +1,18 @@
 -- The bench sheet's starred cases: by computation and, where a case speaks of a reading, of every point or of
--- thousands of
--- functions, by the laws first.
+-- thousands of functions, by the laws first.
 use mathlib.Core.Path.{_≡_, refl, sym, ap, _∙_, subst}
 use mathlib.Core.Bool.{Bool, true, false, not, _&&_, _||_, cond}
 use mathlib.Core.List.{List, [], _∷_, _++_}
 use Prim.Native.Nat.{ℕ, _+_, _*_, _^_, _≤_, _<_}
 use native.Mathlib.Nat.{le-refl, le-antisymm, one-le-pow, mul-comm, mul-left-comm}
 use lib.IntN.{ℤ, pos, _*ℤ_}
-use lib.ListN.{length, replicate, getD-replicate, length-replicate}
-use lib.Seq.{ext-getD}
+use lib.ListN.{length, replicate}
 use lib.Dec.{T, lit<, lit≤}
 use lib.Signed.{_≤ℤ_, leZ, leZ-yes}
 use borrow.Author.Tests.{eq-eqb}
 use Rattle.finite.specs.Range.{sum, every, least, tableFrom, rowsFrom, grid}
 use Rattle.finite.proofs.Order.{scale-reflects, ≤ℤ-antisym}
-use Rattle.finite.proofs.Table.{length-grid, getD-grid, place-split, grid-cong}
+use Rattle.finite.proofs.Table.{grid-cong, grid-const}
 use Rattle.surface.specs.Sheet.{eighths, functions, onSheet}
 use Rattle.surface.specs.Quadtree.{parse, wellFormed, levelAt}
 use Rattle.surface.specs.Support.{shares, leastUnder, active}
@@ -106,18 +104,6 @@ level3 a b =
     (le-antisymm (leastUnder-le-3 8 8 (levels (3 ∷ [])) 3 a b)
     (le-leastWhere 8 8 3 (levels (3 ∷ [])) (λ q r. shares 8 3 a q && shares 8 3 b r) (le-refl 3)
     (λ q r hq hr e. le-refl 3)))
-
--- a grid of one value is that value over and over
-grid-const : (n m x : ℕ) → grid n m (λ a b. x) ≡ replicate (m * n) x
-grid-const n m x =
-    ext-getD 0 (grid n m (λ a b. x)) (replicate (m * n) x)
-    (length-grid n m (λ a b. x) ∙ sym (length-replicate (m * n) x))
-    λ p h.
-    let l : p < m * n = subst (λ k. p < k) (length-grid n m (λ a b. x)) h in
-    let s = place-split n m p l in
-    ap (λ k. lib.ListN.getD (grid n m (λ a b. x)) k 0) (s .4)
-    ∙ getD-grid n m (λ a b. x) (s .0) (s .1) 0 (s .2) (s .3)
-    ∙ sym (getD-replicate (m * n) p x 0 l)
 
 level3-activity : Finest
 unfolding activityOutcome activityCause activityBytes regionCause parse wellFormed

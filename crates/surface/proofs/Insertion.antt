@@ -2,7 +2,7 @@
 use mathlib.Core.Path.{_≡_, refl, sym, ap, _∙_, subst}
 use mathlib.Core.Logic.{_⊎_, inl, inr}
 use mathlib.Core.Bool.{Bool, true, false, not, _&&_, cond}
-use mathlib.Core.List.{List, [], _∷_, _++_}
+use mathlib.Core.List.{List, [], _∷_, _++_, append-nil}
 use Prim.Native.Nat.{ℕ, zero, suc, _+_, _-_, _*_, _^_, _≤_, _<_, max}
 use native.Mathlib.Nat.{zero-add, mul-left-comm, one-le-pow, le-trans, le-of-eq}
 use native.Mathlib.Decide.{decLe}
@@ -29,10 +29,6 @@ use Rattle.finite.proofs.Int.{mul-neg}
 use Rattle.finite.proofs.Order.{scale-mono, scale-reflects, abs-le, le-abs}
 use lib.Pow.{pow-add}
 use lib.Signed.{_≤ℤ_}
-
-pub append-nil : (l : List ℕ) → l ++ [] ≡ l
-append-nil [] = refl
-append-nil (x ∷ l) = ap (λ t. x ∷ t) (append-nil l)
 
 -- a square of the box lies before its far corner
 in-box : (b : Box) (q r : ℕ) → inBox b q r ≡ true → (q < b .u1) × (r < b .v1)

@@ -1,7 +1,7 @@
 -- One set of regions has one tree, as bytes.
 use mathlib.Core.Path.{_≡_, sym, ap, _∙_}
 use mathlib.Core.Logic.{_⊎_, inl, inr}
-use mathlib.Core.List.{List, []}
+use mathlib.Core.List.{List, [], append-nil}
 use Prim.Native.Nat.{ℕ, _+_, _≤_, _<_}
 use native.Mathlib.Decide.{decLt}
 use native.Mathlib.Omega.{arith}
@@ -13,7 +13,6 @@ use Rattle.surface.proofs.TreeBytes.{bytes-parse}
 use Rattle.surface.proofs.TreeLevels.{levelAt-beyond, one-tree}
 use Rattle.surface.proofs.Least.{both}
 use Rattle.surface.proofs.TableLaws.{Formed, levels-of}
-use Rattle.surface.proofs.Insertion.{append-nil}
 
 -- a slice of the form is its tree's bytes
 pub slice-bytes : (W H : ℕ) (t : List ℕ) (f : Formed W H t) → t ≡ bytes (f .tree)

@@ -12,6 +12,7 @@ use Rattle.finite.specs.Range.{every}
 use Rattle.finite.proofs.Table.{getD-table}
 use Rattle.finite.proofs.Tests.{every-cong, every2-cong}
 use Rattle.surface.specs.Sheet.{Box, goodSide, functions, quarters}
+use Rattle.surface.specs.Support.{leastUnder}
 use Rattle.surface.specs.Table.{cause, _orElse_, treeOf, formed, levels, slots, coefficients}
 use Rattle.surface.specs.Table.{withinLimits, passiveZero, regionCause, tableCause}
 use Rattle.surface.specs.Calls.{boxCause}
@@ -81,6 +82,13 @@ map-level t q r hq hr =
     getD-table 0 1024 (λ p. levels t (p % 32) (p / 32)) (r * 32 + q) 0 (omega arith)
     ∙ ap₂ (levels t) (omega arith) (omega arith)
 
+-- the least level under a support by the map is that by the tree
+pub map-least : (W H : ℕ) (t map : List ℕ) (L a b : ℕ) → W ≤ 8 → H ≤ 8 → map ≡ levelMap t
+    → leastUnder W H (levelsOf map) L a b ≡ leastUnder W H (levels t) L a b
+map-least W H t map L a b hW hH e =
+    leastUnder-cong W H (levelsOf map) (levels t)
+    (λ q r hq hr. ap (λ m. levelsOf m q r) e ∙ map-level t q r (omega arith) (omega arith)) L a b
+
 module _ (W H : ℕ) (t : List ℕ) (cs : List ℤ) (map : List ℕ) (hW : W ≤ 8) (hH : H ≤ 8) (e : map ≡ levelMap t) where
   by-map : (p : Test)
       → every 4 (λ L. holdsOn p W H (levelsOf map) cs L) ≡ every 4 (λ L. holdsOn p W H (levels t) cs L)
@@ -88,9 +96,7 @@ module _ (W H : ℕ) (t : List ℕ) (cs : List ℤ) (map : List ℕ) (hW : W ≤
       every-cong 4 (λ L. holdsOn p W H (levelsOf map) cs L) (λ L. holdsOn p W H (levels t) cs L)
       λ L _. every2-cong (functions W L) (functions H L) (λ a b. holdsAt p W H (levelsOf map) cs L a b)
       (λ a b. holdsAt p W H (levels t) cs L a b)
-      λ a b _ _. ap (p L (coefficients W H cs L a b))
-      (leastUnder-cong W H (levelsOf map) (levels t)
-      (λ q r hq hr. ap (λ m. levelsOf m q r) e ∙ map-level t q r (omega arith) (omega arith)) L a b)
+      λ a b _ _. ap (p L (coefficients W H cs L a b)) (map-least W H t map L a b hW hH e)
 
   -- a flag of the faults under the map, with its value
   flag : (p : Test) {f g : Bool} → f ≡ not (every 4 (λ L. holdsOn p W H (levelsOf map) cs L)) → f ≡ not g

@@ -4,7 +4,7 @@ use native.Mathlib.Omega.{arith}
 use borrow.Author.Needs.{needs}
 use lib.Dec.{eqb}
 use Rattle.activity.proofs.MinimaLaws.{functions-le}
-use Rattle.edit.proofs.SetLaws.{least-level}
+use Rattle.table.proofs.CauseLaws.{map-least}
 use Rattle.edit.proofs.is_active.Statement.{statement}
 use Rattle.edit.proofs.is_active.Tie as tie
 
@@ -38,7 +38,7 @@ returns c =
     ap (λ v. eqb v (a .level))
     (c .support-minima .ensures .least (a .w) (paint .result) (s .pre .0) (s .pre .1) (rows .ensures) (a .a)
     (s .pre .4)
-    ∙ least-level (a .w) (a .h) (a .t .now) (paint .result) (a .level) (a .a) (a .b) (s .pre .1) (s .pre .2)
+    ∙ map-least (a .w) (a .h) (a .t .now) (paint .result) (a .level) (a .a) (a .b) (s .pre .1) (s .pre .2)
     (paint .ensures))
 
 pub is-active-spec : {M : Type 1} → statement M
