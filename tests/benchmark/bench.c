@@ -1,70 +1,125 @@
-/* Runs one call of the library a number of times on a table given on standard input, and prints the stack it used. */
+/* Makes each call once on a table given on standard input: of the library (PREFIX kiln_) or of plain C (plain_). Run
+   as `bench count` under callgrind it leaves one dump for each call, named like it; run as `bench stack` it prints the
+   bytes of stack of each call. */
+#include "plain.h"
+
 #include <pthread.h>
-#include <stdint.h>
 #include <stdio.h>
 #include <stdlib.h>
 #include <string.h>
-
-uint8_t kiln_table_cause(size_t w, size_t h, const uint8_t *tree, size_t tree_len, const int64_t *numbers,
-                         size_t numbers_len);
-uint8_t kiln_least_level(size_t w, size_t h, const uint8_t *tree, size_t tree_len, size_t u0, size_t v0, size_t u1,
-                         size_t v1, uint8_t *level, size_t *visited);
-uint8_t kiln_activity(size_t w, size_t h, const uint8_t *tree, size_t tree_len, size_t level, uint8_t *out,
-                      size_t out_len);
-uint8_t kiln_fresh(size_t w, size_t h, int64_t number, uint8_t *tree, size_t tree_len, int64_t *numbers,
-                   size_t numbers_len, size_t *length);
-uint8_t kiln_set(size_t w, size_t h, const uint8_t *tree, size_t tree_len, int64_t *numbers, size_t numbers_len,
-                 size_t level, int64_t i, int64_t j, int64_t number);
+#include <valgrind/callgrind.h>
 
 static size_t w, h, tree_len, numbers_len;
 static uint8_t tree[1365], out[4489], tree_out[1365];
 static int64_t numbers[6196], numbers_out[6196];
 
-static unsigned call(const char *name) {
-  size_t n = 0;
-  uint8_t level = 0;
-  if (!strcmp(name, "table_check")) return kiln_table_cause(w, h, tree, tree_len, numbers, numbers_len);
-  if (!strcmp(name, "least_level")) return kiln_least_level(w, h, tree, tree_len, 0, 0, 4 * w, 4 * h, &level, &n);
-  if (!strcmp(name, "activity")) return kiln_activity(w, h, tree, tree_len, 3, out, (8 * w + 3) * (8 * h + 3));
-  if (!strcmp(name, "fresh"))
-    return kiln_fresh(w, h, 700, tree_out, sizeof tree_out, numbers_out, numbers_len, &n);
-  if (!strcmp(name, "set"))
-    return kiln_set(w, h, tree, tree_len, numbers, numbers_len, 0, 0, 0, numbers[3 * (w + 3) + 3]);
-  exit(2);
+/* What the calls give beside a refusal number. */
+static uint8_t level;
+static size_t amount;
+
+static unsigned nothing(void) {
+  return 0;
 }
 
-enum { DEPTH = 1 << 17 };
+static unsigned table_check(void) {
+  return CALL(table_cause)(w, h, tree, tree_len, numbers, numbers_len);
+}
+
+static unsigned least_level(void) {
+  return CALL(least_level)(w, h, tree, tree_len, 0, 0, 4 * w, 4 * h, &level, &amount);
+}
+
+static unsigned activity(void) {
+  return CALL(activity)(w, h, tree, tree_len, 3, out, (8 * w + 3) * (8 * h + 3));
+}
+
+static unsigned fresh(void) {
+  return CALL(fresh)(w, h, 700, tree_out, sizeof tree_out, numbers_out, numbers_len, &amount);
+}
+
+/* Writes the number that stands there, so that every call reads the same table. */
+static unsigned set(void) {
+  return CALL(set)(w, h, tree, tree_len, numbers, numbers_len, 0, 0, 0, numbers[3 * (w + 3) + 3]);
+}
+
+static int64_t whole;
+static double watts_read;
+
+static unsigned exact(void) {
+  return CALL(exact)(w, h, tree, tree_len, numbers, numbers_len, 64 * w + 5, 64 * h + 7, &whole);
+}
+
+static unsigned watts(void) {
+  return CALL(watts)(w, h, tree, tree_len, numbers, numbers_len, 64 * w + 5, 64 * h + 7, &watts_read);
+}
+
+static unsigned display(void) {
+  return CALL(display)(w, h, tree, tree_len, numbers, numbers_len, 64 * w + 5, 64 * h + 7, &whole);
+}
+
+static unsigned cost(void) {
+  return CALL(cost)(w, h, tree, tree_len, numbers, numbers_len, 64 * w + 5, 64 * h + 7, 1500, &amount);
+}
+
+struct call {
+  const char *name;
+  unsigned (*make)(void);
+};
+
+static const struct call calls[] = {
+  {"nothing", nothing}, {"table_check", table_check}, {"least_level", least_level}, {"activity", activity},
+  {"fresh", fresh}, {"set", set},
+  {"exact", exact}, {"watts", watts}, {"display", display}, {"cost", cost},
+};
+
+enum { CALLS = sizeof calls / sizeof *calls, DEPTH = 1 << 17, UNUSED = 0xA5 };
 static _Alignas(4096) uint8_t room[DEPTH];
 
-static void *work(void *name) {
-  if (name) call(name);
+struct job {
+  const struct call *call;
+  size_t depth;
+};
+
+/* Makes the call, and finds how far below this frame the stack has changed. */
+static void *work(void *given) {
+  struct job *job = given;
+  uint8_t *frame = __builtin_frame_address(0), *lowest = room;
+  job->call->make();
+  while (*lowest == UNUSED) lowest++;
+  job->depth = (size_t)(frame - lowest);
   return NULL;
 }
 
-/* The bytes of its own stack that a thread changes which makes the call, or does nothing. */
-static size_t depth(const char *name) {
+/* The bytes of stack of one call, made in a thread of its own, with those of the C functions that it calls. */
+static size_t depth(const struct call *call) {
+  struct job job = {call, 0};
   pthread_t thread;
   pthread_attr_t attributes;
-  size_t at = 0;
-  memset(room, 0xA5, DEPTH);
+  memset(room, UNUSED, DEPTH);
   pthread_attr_init(&attributes);
   pthread_attr_setstack(&attributes, room, DEPTH);
-  if (pthread_create(&thread, &attributes, work, (void *)name)) exit(2);
+  if (pthread_create(&thread, &attributes, work, &job)) exit(2);
   pthread_join(thread, NULL);
-  while (at < DEPTH && room[at] == 0xA5) at++;
-  return DEPTH - at;
+  return job.depth;
 }
 
 int main(int argc, char **argv) {
-  unsigned faults = 0;
-  if (argc != 3 || scanf("%zu %zu %zu", &w, &h, &tree_len) != 3) return 2;
+  if (argc != 2 || scanf("%zu %zu %zu", &w, &h, &tree_len) != 3 || tree_len > sizeof tree) return 2;
   for (size_t i = 0; i < tree_len; i++)
     if (scanf("%hhu", &tree[i]) != 1) return 2;
-  if (scanf("%zu", &numbers_len) != 1) return 2;
+  if (scanf("%zu", &numbers_len) != 1 || numbers_len > sizeof numbers / sizeof *numbers) return 2;
   for (size_t i = 0; i < numbers_len; i++)
     if (scanf("%ld", &numbers[i]) != 1) return 2;
-  printf("%zu ", depth(argv[1]) - depth(NULL));
-  for (int k = 0; k < atoi(argv[2]); k++) faults += call(argv[1]);
-  printf("%u\n", faults);
-  return faults != 0;
+  /* No call may refuse; made once beforehand, none pays for being the first. */
+  for (int k = 0; k < CALLS; k++)
+    if (calls[k].make()) return 1;
+  if (!strcmp(argv[1], "stack"))
+    for (int k = 0; k < CALLS; k++) printf("%s %zu\n", calls[k].name, depth(&calls[k]));
+  if (!strcmp(argv[1], "count"))
+    for (int k = 0; k < CALLS; k++) {
+      CALLGRIND_ZERO_STATS;
+      calls[k].make();
+      CALLGRIND_DUMP_STATS_AT(calls[k].name);
+    }
+  return 0;
 }

@@ -15,6 +15,7 @@ from surface import place_count, total_places
 
 LEAST, GREATEST = -(2**63), 2**63 - 1
 ODD_SIDES = (0, 9, 2**32 + 1, 2**64 - 1)
+TARIFFS = (0, 1, 1_499, 1_500, 99_999, 100_000, 2**63)
 
 
 def table(rng: Random) -> samples.Table:
@@ -78,6 +79,35 @@ def box(rng: Random, w: int, h: int) -> Tuple[int, int, int, int]:
 def any_table(rng: Random) -> samples.Table:
     t = table(rng)
     return damaged(rng, t) if rng.random() < 0.4 else t
+
+
+def sloped_table(rng: Random) -> samples.Table:
+    """An unrefined table that rises by whole watts from cell to cell, so that it reads halves between them."""
+    w, h = rng.randint(1, 8), rng.randint(1, 8)
+    at_0, along_u, along_v = rng.randint(-9, 9), rng.randint(-3, 3), rng.randint(-3, 3)
+    coarse = [at_0 + i * along_u + j * along_v for j in range(h + 3) for i in range(w + 3)]
+    return samples.Table(w, h, [0], coarse + [0] * (total_places(w, h) - len(coarse)))
+
+
+def reading_table(rng: Random) -> samples.Table:
+    return sloped_table(rng) if rng.random() < 0.2 else any_table(rng)
+
+
+def _steps(rng: Random, side: int) -> int:
+    """A place along one side: anywhere, on edges of cells, quarters and level 3 cells, at the ends, beyond."""
+    side = min(side, 8) or 1
+    end = 128 * side
+    inside = (rng.randint(0, end), 128 * rng.randint(0, side), 64 * rng.randint(0, 2 * side),
+              32 * rng.randint(0, 4 * side), 16 * rng.randint(0, 8 * side), rng.randint(end - 16, end))
+    return rng.choice(inside * 2 + (0, end, end, end + 1, rng.choice((2**63, 2**64 - 1, end + 128, 2**32))))
+
+
+def point(rng: Random, w: int, h: int) -> Tuple[int, int]:
+    return _steps(rng, w), _steps(rng, h)
+
+
+def tariff(rng: Random) -> int:
+    return rng.choice(TARIFFS + (rng.randint(0, 99_999), rng.randint(0, 99_999), 2**64 - 1))
 
 
 def output_length(rng: Random, exact: int) -> int:

@@ -58,38 +58,63 @@ def numbers(values: Sequence[int]) -> Lent:
 
 
 class Library:
-    def __init__(self, lib: ctypes.CDLL) -> None:
-        self.lib = lib
-        for name in ("least_level", "activity", "fresh", "set", "table_cause"):
-            getattr(lib, "kiln_" + name).restype = ctypes.c_uint8
+    """The calls under their C names, which start with a prefix. A refusal that wrote a value is told apart."""
+
+    def __init__(self, lib: ctypes.CDLL, prefix: str = "kiln_") -> None:
+        self.lib, self.prefix = lib, prefix
+
+    def _call(self, name: str, *given) -> int:
+        function = getattr(self.lib, self.prefix + name)
+        function.restype = ctypes.c_uint8
+        return function(*given)
 
     def least_level(self, w: int, h: int, tree: Lent, box: Tuple[int, int, int, int]) -> Tuple:
         level, visited = ctypes.c_uint8(0xEE), ctypes.c_size_t(0xEEEE)
-        n = self.lib.kiln_least_level(size(w), size(h), tree.pointer(), size(tree.n), *map(size, box),
-                                      ctypes.byref(level), ctypes.byref(visited))
+        n = self._call("least_level", size(w), size(h), tree.pointer(), size(tree.n), *map(size, box),
+                       ctypes.byref(level), ctypes.byref(visited))
         if n:
             return ("refused", n) if (level.value, visited.value) == (0xEE, 0xEEEE) else ("wrote", n)
         return ("ok", level.value, visited.value)
 
     def activity(self, w: int, h: int, tree: Lent, level: int, out: Lent) -> Tuple:
-        n = self.lib.kiln_activity(size(w), size(h), tree.pointer(), size(tree.n), size(level), out.pointer(),
-                                   size(out.n))
+        n = self._call("activity", size(w), size(h), tree.pointer(), size(tree.n), size(level), out.pointer(),
+                       size(out.n))
         return ("refused", n) if n else ("ok",)
 
     def fresh(self, w: int, h: int, value: int, tree_out: Lent, numbers_out: Lent) -> Tuple:
         length = ctypes.c_size_t(0xEEEE)
-        n = self.lib.kiln_fresh(size(w), size(h), number(value), tree_out.pointer(), size(tree_out.n),
-                                numbers_out.pointer(), size(numbers_out.n), ctypes.byref(length))
+        n = self._call("fresh", size(w), size(h), number(value), tree_out.pointer(), size(tree_out.n),
+                       numbers_out.pointer(), size(numbers_out.n), ctypes.byref(length))
         if n:
             return ("refused", n) if length.value == 0xEEEE else ("wrote", n)
         return ("ok", length.value)
 
     def set_coefficient(self, w: int, h: int, tree: Lent, values: Lent, level: int, i: int, j: int,
                         value: int) -> Tuple:
-        n = self.lib.kiln_set(size(w), size(h), tree.pointer(), size(tree.n), values.pointer(), size(values.n),
-                              size(level), number(i), number(j), number(value))
+        n = self._call("set", size(w), size(h), tree.pointer(), size(tree.n), values.pointer(), size(values.n),
+                       size(level), number(i), number(j), number(value))
         return ("refused", n) if n else ("ok",)
 
     def table_cause(self, w: int, h: int, tree: Lent, values: Lent) -> int:
-        return self.lib.kiln_table_cause(size(w), size(h), tree.pointer(), size(tree.n), values.pointer(),
-                                         size(values.n))
+        return self._call("table_cause", size(w), size(h), tree.pointer(), size(tree.n), values.pointer(),
+                          size(values.n))
+
+    def _reading(self, name: str, kind, w: int, h: int, tree: Lent, values: Lent, *place: int) -> Tuple:
+        given = kind(0xEEEE)
+        n = self._call(name, size(w), size(h), tree.pointer(), size(tree.n), values.pointer(), size(values.n),
+                       *map(size, place), ctypes.byref(given))
+        if n:
+            return ("refused", n) if given.value == 0xEEEE else ("wrote", n)
+        return ("ok", given.value)
+
+    def exact(self, w: int, h: int, tree: Lent, values: Lent, u: int, v: int) -> Tuple:
+        return self._reading("exact", ctypes.c_int64, w, h, tree, values, u, v)
+
+    def watts(self, w: int, h: int, tree: Lent, values: Lent, u: int, v: int) -> Tuple:
+        return self._reading("watts", ctypes.c_double, w, h, tree, values, u, v)
+
+    def display(self, w: int, h: int, tree: Lent, values: Lent, u: int, v: int) -> Tuple:
+        return self._reading("display", ctypes.c_int64, w, h, tree, values, u, v)
+
+    def cost(self, w: int, h: int, tree: Lent, values: Lent, u: int, v: int, tariff: int) -> Tuple:
+        return self._reading("cost", ctypes.c_size_t, w, h, tree, values, u, v, tariff)

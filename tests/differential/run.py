@@ -8,14 +8,16 @@ import sys
 
 sys.dont_write_bytecode = True
 
+from functools import partial
 from random import Random
 from typing import Callable, Dict, List
 
 import cases
 from cases import calls
-from library import Library, build, numbers, octets
+from library import Lent, Library, build, numbers, octets
 
 SEED = 20_261_115
+READINGS = ("exact", "watts", "display", "cost")
 
 
 def least_level(rng: Random, lib: Library) -> str:
@@ -73,12 +75,32 @@ def table_cause(rng: Random, lib: Library) -> str:
     return differ(f"table_cause {t.w} {t.h} {t.tree}", got, want, (tree, t.tree), (values, t.coefficients))
 
 
+def reading(name: str, rng: Random, lib: Library) -> str:
+    """One reading of a table at two points; the f64 reading may differ within its bound."""
+    t = cases.reading_table(rng)
+    tree, values = octets(t.tree), numbers(t.coefficients)
+    for _ in range(2):
+        place = cases.point(rng, t.w, t.h) + ((cases.tariff(rng),) if name == "cost" else ())
+        got = getattr(lib, name)(t.w, t.h, tree, values, *place)
+        if name == "watts":
+            allowed = got[0] != "wrote" and calls.float_allowed(t.w, t.h, t.tree, t.coefficients, *place, got)
+            want = got if allowed else ("within 2^-30 of the numerator over D",
+                                        calls.exact(t.w, t.h, t.tree, t.coefficients, *place).answer)
+        else:
+            want = getattr(calls, name)(t.w, t.h, t.tree, t.coefficients, *place).answer
+        fault = differ(f"{name} {t.w} {t.h} {t.tree} {place}", got, want, (tree, t.tree), (values, t.coefficients))
+        if fault:
+            return fault
+    return ""
+
+
 CALLS: Dict[str, Callable[[Random, Library], str]] = {
     "least_level": least_level,
     "activity": activity,
     "fresh": fresh,
     "set": set_coefficient,
     "table_cause": table_cause,
+    **{name: partial(reading, name) for name in READINGS},
 }
 
 
@@ -107,6 +129,35 @@ def bench_sheet(lib: Library) -> List[str]:
     return [f"{words}: {got}" for words, got, want in checks if got != want]
 
 
+def bench_readings(lib: Library) -> List[str]:
+    """The same for the readings, with the halves of document 01's rounding."""
+    def columns(*watts: int) -> Lent:
+        return numbers(list(watts) * 4 + [0] * 195)
+
+    d, flat, refined = 36 * 2**42, octets([0]), octets([4, 4, 4, 1] + [0] * 9)
+    s, one, corner, inner = columns(-1_000, 0, 1_000, 2_000), columns(1, 1, 1, 1), [1] + [0] * 210, [0] * 5 + [1]
+    s_1 = numbers([0] * 16 + [-32_000, 0, 32_000, 64_000, 96_000] * 5 + [0] * 170)
+    checks = (
+        ("S at (64, 5)", lib.exact(1, 1, flat, s, 64, 5), ("ok", 500 * d)),
+        ("S with level 1 at (64, 5)", lib.exact(1, 1, refined, s_1, 64, 5), ("ok", 500 * d)),
+        ("only (-3, -3), at (0, 0)", lib.exact(1, 1, flat, numbers(corner), 0, 0), ("ok", 2**42)),
+        ("only (-3, -3), at (128, 128)", lib.exact(1, 1, flat, numbers(corner), 128, 128), ("ok", 0)),
+        ("only (-2, -2), at (0, 0)", lib.exact(1, 1, flat, numbers(inner + [0] * 205), 0, 0), ("ok", 2**46)),
+        ("u 128 accepted", lib.exact(1, 1, flat, s, 128, 0), ("ok", 1_000 * d)),
+        ("u 129 gives 6", lib.exact(1, 1, flat, s, 129, 0), ("refused", 6)),
+        ("500 watts as f64", lib.watts(1, 1, flat, s, 64, 5), ("ok", 500.0)),
+        ("0.5 shows 1", lib.display(1, 1, flat, columns(-1, 0, 1, 2), 64, 5), ("ok", 1)),
+        ("-0.5 shows 0", lib.display(1, 1, flat, columns(-2, -1, 0, 1), 64, 5), ("ok", 0)),
+        ("-1.5 shows -1", lib.display(1, 1, flat, columns(-3, -2, -1, 0), 64, 5), ("ok", -1)),
+        ("1 watt, tariff 1,499", lib.cost(1, 1, flat, one, 9, 9, 1_499), ("ok", 1)),
+        ("1 watt, tariff 1,500", lib.cost(1, 1, flat, one, 9, 9, 1_500), ("ok", 2)),
+        ("-1 watt costs 0", lib.cost(1, 1, flat, columns(-1, -1, -1, -1), 9, 9, 99_999), ("ok", 0)),
+        ("tariff 100,000 gives 11", lib.cost(1, 1, flat, one, 9, 9, 100_000), ("refused", 11)),
+        ("a point off the sheet comes before a tariff", lib.cost(1, 1, flat, one, 9, 129, 100_000), ("refused", 6)),
+    )
+    return [f"{words}: {got}" for words, got, want in checks if got != want]
+
+
 def differ(words: str, got, want, *buffers) -> str:
     """Empty where the answer, the buffers and the guards are as they should be."""
     if got != want:
@@ -119,26 +170,31 @@ def differ(words: str, got, want, *buffers) -> str:
     return ""
 
 
-def main() -> int:
-    total = int(sys.argv[1]) if len(sys.argv) > 1 else 3_000
-    seed = int(sys.argv[2]) if len(sys.argv) > 2 else SEED
-    lib = Library(build())
-    wrong = bench_sheet(lib)
-    for words in wrong:
-        print(f"bench sheet: {words}")
-    faults, names = len(wrong), list(CALLS)
+def hold(lib: Library, words: str, total: int, seed: int) -> int:
+    """Makes the bench cases and generated calls, and returns the faults."""
+    names = list(CALLS)
+    wrong = bench_sheet(lib) + bench_readings(lib)
+    for told in wrong:
+        print(f"bench sheet: {told}")
+    faults = len(wrong)
     for k in range(total):
         name = names[k % len(names)]
         fault = CALLS[name](Random(seed * 1_000_003 + k), lib)
         if fault:
             faults += 1
             print(f"case {k} of seed {seed}: {fault[:2000]}")
-            if faults == 5:
+            if faults >= 5:
                 break
         if total > 5_000 and k % 5_000 == 4_999:
-            print(f"differential: {k + 1} of {total}", flush=True)
-    print(f"differential: {total} calls, {faults} faults")
-    return 1 if faults else 0
+            print(f"{words}: {k + 1} of {total}", flush=True)
+    print(f"{words}: {total} calls, {faults} faults")
+    return faults
+
+
+def main() -> int:
+    total = int(sys.argv[1]) if len(sys.argv) > 1 else 3_000
+    seed = int(sys.argv[2]) if len(sys.argv) > 2 else SEED
+    return 1 if hold(Library(build()), "differential", total, seed) else 0
 
 
 if __name__ == "__main__":

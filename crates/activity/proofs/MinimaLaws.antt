@@ -171,25 +171,40 @@ by-rows W H lev L a b = le-antisymm below above
         le-trans (picked-le (quarters H) (shares H L b) row r hr (es .1))
         (picked-le (quarters W) (shares W L a) (λ q. lev q r) q hq (es .0))
 
+-- from the least levels in the rows of its window
+pub under-rows : (W H L a b : ℕ) (map : List ℕ) (f : ℕ → ℕ)
+    → ((r : ℕ) → lowEnd L b / 2 ≤ r → r < (highEnd H L b + 1) / 2 → f r ≡ rowLeast W L map a r)
+    → leastFrom (lowEnd L b / 2) ((highEnd H L b + 1) / 2) f ≡ leastUnder W H (levelsOf map) L a b
+unfolding rowLeast
+under-rows W H L a b map f rows =
+    from-cong (lowEnd L b / 2) ((highEnd H L b + 1) / 2) f (rowLeast W L map a) rows
+    ∙ shares-least H L b (rowLeast W L map a)
+    ∙ sym (by-rows W H (levelsOf map) L a b)
+
 -- from the minima of the rows of the sheet
 pub support-least : (W H L a b : ℕ) (map minima : List ℕ) → RowMinima W H L map minima → a < functions W L
     → leastFrom (lowEnd L b / 2) ((highEnd H L b + 1) / 2) (λ r. getD minima (r * 80 + a) 0)
     ≡ leastUnder W H (levelsOf map) L a b
-unfolding rowLeast
 support-least W H L a b map minima m ha =
-    from-cong (lowEnd L b / 2) ((highEnd H L b + 1) / 2) (λ r. getD minima (r * 80 + a) 0) (rowLeast W L map a)
+    under-rows W H L a b map (λ r. getD minima (r * 80 + a) 0)
     (λ r _ hr. m .rows a r ha (omega (arith, window-fits H L b)))
-    ∙ shares-least H L b (rowLeast W L map a)
-    ∙ sym (by-rows W H (levelsOf map) L a b)
 
 -- ---- stores one after the other
 
--- the places of the numbers below i have what is wanted; with a store at the place of i, so has that
+-- the places of the numbers from `from` to below i have what is wanted; with a store at the place of i, so has that
+pub stored-from : (l : List ℕ) (place want : ℕ → ℕ) (from i v : ℕ) → place i < length l
+    → ((k : ℕ) → k < i → place k ≡ place i → ⊥)
+    → ((k : ℕ) → k < i → from ≤ k → getD l (place k) 0 ≡ want k) → v ≡ want i
+    → (k : ℕ) → k < i + 1 → from ≤ k → getD (set l (place i) v) (place k) 0 ≡ want k
+stored-from l place want from i v fits apart before e =
+    below-more (λ k. from ≤ k → getD (set l (place i) v) (place k) 0 ≡ want k) i
+    (λ k h f. getD-set-other l (place i) (place k) v 0 (apart k h) ∙ before k h f)
+    (λ _. getD-set-same l (place i) v 0 fits ∙ e)
+
+-- the same of all numbers below i
 pub stored : (l : List ℕ) (place want : ℕ → ℕ) (i v : ℕ) → place i < length l
     → ((k : ℕ) → k < i → place k ≡ place i → ⊥)
     → ((k : ℕ) → k < i → getD l (place k) 0 ≡ want k) → v ≡ want i
     → (k : ℕ) → k < i + 1 → getD (set l (place i) v) (place k) 0 ≡ want k
-stored l place want i v fits apart before e =
-    below-more (λ k. getD (set l (place i) v) (place k) 0 ≡ want k) i
-    (λ k h. getD-set-other l (place i) (place k) v 0 (apart k h) ∙ before k h)
-    (getD-set-same l (place i) v 0 fits ∙ e)
+stored l place want i v fits apart before e k h =
+    stored-from l place want 0 i v fits apart (λ k h _. before k h) e k h (omega arith)

@@ -1,2 +1,3 @@
 pub mod Minima
 pub mod Mark
+pub mod Near

@@ -1,6 +1,7 @@
 // The least levels under the supports of a level's functions, from the map of levels: minima over windows of quarter
 // squares, first along u in each row, then along v. (The map has 32 rows of 32 places; a row of minima has 80 places.)
 pub mod mark;
+pub mod near;
 
 ghost use mathlib.Core.Path.{_≡_};
 ghost use Prim.Native.Nat.{_+_, _/_, _≤_, _<_, min};

@@ -17,3 +17,27 @@ pub enum Least {
     Level { level: u8, visited: usize },
     Refused(u8),
 }
+
+// The exact reading: a numerator over D.
+pub enum Exact {
+    Numerator(i64),
+    Refused(u8),
+}
+
+// Document 01: either watts as an f64 or a refusal number.
+pub enum Reading {
+    Watts(f64),
+    Refused(u8),
+}
+
+// The display: whole watts.
+pub enum Display {
+    Watts(i64),
+    Refused(u8),
+}
+
+// Cost per hour, in hundredths of a cent.
+pub enum Cost {
+    Hundredths(usize),
+    Refused(u8),
+}

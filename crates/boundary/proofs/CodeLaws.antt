@@ -1,8 +1,11 @@
 -- The codes and values of an answer that a call is known to have given.
 use mathlib.Core.Path.{_≡_, refl, subst}
 use Prim.Native.Nat.{ℕ}
+use lib.IntN.{ℤ}
+use lib.Ieee.{Float}
 use Rattle.surface.specs.Calls.{Answer, refused, gives, LeastLevel}
-use Rattle.boundary.specs.Codes.{codeOf, orGiven, levelOf, visitedOf, bytesOf}
+use Rattle.surface.specs.FloatReading.{FloatMeets}
+use Rattle.boundary.specs.Codes.{codeOf, orGiven, levelOf, visitedOf, itself, WattsAfter}
 
 -- what the least level call leaves in its parameters
 abbrev pub Told : Answer LeastLevel → ℕ → ℕ → ℕ → ℕ → ℕ → Type 0
@@ -22,9 +25,20 @@ code-done a e = subst (λ o. 0 ≡ codeOf o) e refl
 pub code-refused : {A : Type 0} {o : Answer A} (n : ℕ) → refused n ≡ o → n ≡ codeOf o
 code-refused n e = subst (λ o. n ≡ codeOf o) e refl
 
--- what a call that writes a tree leaves at its length
-pub length-given : {o : Answer ℕ} (n a : ℕ) → gives n ≡ o → (0 ≡ codeOf o) × (n ≡ orGiven bytesOf o a)
-length-given n a e = subst (λ o. (0 ≡ codeOf o) × (n ≡ orGiven bytesOf o a)) e (refl, refl)
+-- what a call that gives one number leaves at its parameter
+pub number-given : {A : Type 0} {o : Answer A} (n a : A) → gives n ≡ o → (0 ≡ codeOf o) × (n ≡ orGiven itself o a)
+number-given n a e = subst (λ o. (0 ≡ codeOf o) × (n ≡ orGiven itself o a)) e (refl, refl)
 
-pub length-refused : {o : Answer ℕ} (n a : ℕ) → refused n ≡ o → (n ≡ codeOf o) × (a ≡ orGiven bytesOf o a)
-length-refused n a e = subst (λ o. (n ≡ codeOf o) × (a ≡ orGiven bytesOf o a)) e (refl, refl)
+pub number-refused : {A : Type 0} {o : Answer A} (n : ℕ) (a : A) → refused n ≡ o
+    → (n ≡ codeOf o) × (a ≡ orGiven itself o a)
+number-refused n a e = subst (λ o. (n ≡ codeOf o) × (a ≡ orGiven itself o a)) e (refl, refl)
+
+-- the exact outcome that an f64 reading meets is given or refused as the reading is
+pub watts-given : (o : Answer ℤ) (x old : Float) → FloatMeets o (gives x) → (0 ≡ codeOf o) × WattsAfter o old x
+watts-given (refused n) x old m = absurd m
+watts-given (gives n) x old m = (refl, m)
+
+pub watts-refused : (o : Answer ℤ) (n : ℕ) (old : Float) → FloatMeets o (refused n)
+    → (n ≡ codeOf o) × WattsAfter o old old
+watts-refused (refused m) n old e = (e, refl)
+watts-refused (gives m) n old e = absurd e

@@ -1,6 +1,11 @@
 -- What an answer is for another language: a refusal number, 0 for none, and values written through parameters.
-use Prim.Native.Nat.{ℕ}
+use mathlib.Core.Path.{_≡_}
+use Prim.Native.Nat.{ℕ, _^_}
+use lib.IntN.{ℤ}
+use lib.Ieee.{Float}
+use Rattle.surface.specs.Truncation.{D}
 use Rattle.surface.specs.Calls.{Answer, refused, gives, LeastLevel}
+use Rattle.surface.specs.FloatReading.{Near}
 
 -- the refusal number, 0 where the call gives its result
 abbrev pub codeOf : {A : Type 0} → Answer A → ℕ
@@ -8,7 +13,7 @@ codeOf (refused n) = n
 codeOf (gives a) = 0
 
 -- what stands at a parameter afterwards: what stood there, or the value that the call gives
-abbrev pub orGiven : {A : Type 0} → (A → ℕ) → Answer A → ℕ → ℕ
+abbrev pub orGiven : {A B : Type 0} → (A → B) → Answer A → B → B
 orGiven f (refused n) old = old
 orGiven f (gives a) old = f a
 
@@ -18,6 +23,11 @@ levelOf a = a .level
 abbrev pub visitedOf : LeastLevel → ℕ
 visitedOf a = a .visited
 
--- a length is itself
-abbrev pub bytesOf : ℕ → ℕ
-bytesOf n = n
+-- a number that the call gives, as it is
+abbrev pub itself : {A : Type 0} → A → A
+itself n = n
+
+-- the f64 that stands at a parameter afterwards: what stood there, or watts within 2^-30 of the exact reading
+abbrev pub WattsAfter : Answer ℤ → Float → Float → Type 0
+WattsAfter (refused n) old new = new ≡ old
+WattsAfter (gives n) old new = Near (2 ^ 30) D n new

@@ -5,7 +5,8 @@ ghost use mathlib.Core.Path.{_≡_};
 ghost use Prim.Native.Nat.{ℕ};
 ghost use Rattle.surface.specs.Table.{tableCause};
 ghost use Rattle.surface.specs.Calls.{leastOutcome, activityOutcome, freshOutcome, setOutcome};
-ghost use Rattle.boundary.specs.Codes.{codeOf, orGiven, levelOf, visitedOf, bytesOf};
+ghost use Rattle.surface.specs.Calls.{exactOutcome, displayOutcome, costOutcome};
+ghost use Rattle.boundary.specs.Codes.{codeOf, orGiven, levelOf, visitedOf, itself, WattsAfter};
 
 #[no_mangle]
 pub extern "C" fn kiln_least_level(
@@ -71,7 +72,7 @@ pub extern "C" fn kiln_fresh(
         × (now («numbers_out» .exit)
         ≡ (freshOutcome w h number (now («tree_out» .entry)) (now («numbers_out» .entry))) .numbers)
         × (now (length .exit)
-        ≡ orGiven bytesOf ((freshOutcome w h number (now («tree_out» .entry)) (now («numbers_out» .entry))) .result)
+        ≡ orGiven itself ((freshOutcome w h number (now («tree_out» .entry)) (now («numbers_out» .entry))) .result)
         (now (length .entry))) ⌝ }
 {
     let r = edit::fresh(w, h, number, tree_out, numbers_out);
@@ -113,4 +114,107 @@ pub extern "C" fn kiln_table_cause(w: usize, h: usize, tree: &[u8], numbers: &[i
     ensures { λ r. ⌜ r ≡ tableCause w h (now (tree .entry)) (now (numbers .entry)) ⌝ }
 {
     table::cause::table_cause(w, h, tree, numbers)
+}
+
+// The exact reading: `numerator` receives its numerator over D.
+#[no_mangle]
+pub extern "C" fn kiln_exact(
+    w: usize,
+    h: usize,
+    tree: &[u8],
+    numbers: &[i64],
+    u: usize,
+    v: usize,
+    numerator: &mut i64,
+) -> u8
+    ensures { λ r. ⌜ (r ≡ codeOf (exactOutcome w h (now (tree .entry)) (now (numbers .entry)) u v))
+        × (now (numerator .exit)
+        ≡ orGiven itself (exactOutcome w h (now (tree .entry)) (now (numbers .entry)) u v)
+        (now (numerator .entry))) ⌝ }
+{
+    let r = readings::exact(w, h, tree, numbers, u, v);
+    match r {
+        answers::Exact::Numerator(x) => {
+            *numerator = x;
+            0
+        }
+        answers::Exact::Refused(n) => n,
+    }
+}
+
+// The reading as an f64: `watts` receives it.
+#[no_mangle]
+pub extern "C" fn kiln_watts(
+    w: usize,
+    h: usize,
+    tree: &[u8],
+    numbers: &[i64],
+    u: usize,
+    v: usize,
+    watts: &mut f64,
+) -> u8
+    ensures { λ r. ⌜ (r ≡ codeOf (exactOutcome w h (now (tree .entry)) (now (numbers .entry)) u v))
+        × WattsAfter (exactOutcome w h (now (tree .entry)) (now (numbers .entry)) u v)
+        (now (watts .entry)) (now (watts .exit)) ⌝ }
+{
+    let r = readings::watts(w, h, tree, numbers, u, v);
+    match r {
+        answers::Reading::Watts(x) => {
+            *watts = x;
+            0
+        }
+        answers::Reading::Refused(n) => n,
+    }
+}
+
+// The display: `watts` receives whole watts.
+#[no_mangle]
+pub extern "C" fn kiln_display(
+    w: usize,
+    h: usize,
+    tree: &[u8],
+    numbers: &[i64],
+    u: usize,
+    v: usize,
+    watts: &mut i64,
+) -> u8
+    ensures { λ r. ⌜ (r ≡ codeOf (displayOutcome w h (now (tree .entry)) (now (numbers .entry)) u v))
+        × (now (watts .exit)
+        ≡ orGiven itself (displayOutcome w h (now (tree .entry)) (now (numbers .entry)) u v) (now (watts .entry))) ⌝ }
+{
+    let r = readings::display(w, h, tree, numbers, u, v);
+    match r {
+        answers::Display::Watts(x) => {
+            *watts = x;
+            0
+        }
+        answers::Display::Refused(n) => n,
+    }
+}
+
+// The cost per hour: `cost` receives hundredths of a cent.
+#[no_mangle]
+pub extern "C" fn kiln_cost(
+    w: usize,
+    h: usize,
+    tree: &[u8],
+    numbers: &[i64],
+    u: usize,
+    v: usize,
+    tariff: usize,
+    cost: &mut usize,
+) -> u8
+    ensures { λ r. ⌜ (r ≡ codeOf (costOutcome w h (now (tree .entry)) (now (numbers .entry)) u v tariff))
+        × (now (cost .exit)
+        ≡ orGiven itself (costOutcome w h (now (tree .entry)) (now (numbers .entry)) u v tariff)
+        (now (cost .entry))) ⌝ }
+{
+    let r = readings::cost(w, h, tree, numbers, u, v, tariff);
+    match r {
+        answers::Cost::Hundredths(x) => {
+            *cost = x;
+            0
+        }
+        answers::Cost::Refused(n) => n,
+    }
 }

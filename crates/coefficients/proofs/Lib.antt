@@ -1,3 +1,4 @@
 pub mod FaultLaws
 pub mod FillLaws
+pub mod Parts
 pub mod Sizes

@@ -15,12 +15,10 @@ use Rattle.finite.proofs.Order.{abs-le, le-abs}
 use Rattle.surface.specs.Sheet.{cells, functions}
 use Rattle.surface.specs.Calls.{indexFits, index}
 use Rattle.surface.proofs.Least.{both}
+use Rattle.coefficients.proofs.FaultLaws.{low}
 use Rattle.activity.proofs.MinimaLaws.{functions-le}
 
 -- ---- a number c and its limit m, which is in z
-
-low : {z : ℤ} {m : ℕ} → z ≡ pos m → pos 0 -ℤ z ≡ negℤ (pos m)
-low {z} e = +ℤ-idl (negℤ z) ∙ ap negℤ e
 
 module _ {c z : ℤ} {m : ℕ} (s : SFits w64 c) (e : z ≡ pos m) where
   pub past-above : ltZ z (toZ w64 (ofZ w64 c)) ≡ true → true ≡ ltb m (natAbs c)

@@ -1,4 +1,5 @@
 pub mod Extremum
+pub mod Four
 pub mod Int
 pub mod Order
 pub mod Sum

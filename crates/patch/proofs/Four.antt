@@ -1,19 +1,12 @@
 -- Four in a row: what holds of each of them, and sums in two directions.
 use mathlib.Core.Path.{_≡_, refl, sym, ap, _∙_}
 use mathlib.Core.List.{List, [], _∷_}
-use Prim.Native.Nat.{ℕ, zero, suc, _*_, _<_}
-use native.Mathlib.Omega.{arith}
+use Prim.Native.Nat.{ℕ, _*_}
 use lib.IntN.{ℤ, pos, _*ℤ_}
 use Rattle.finite.specs.Range.{sum, sum2}
+pub use Rattle.finite.proofs.Four.{each}
 use Rattle.finite.proofs.Int.{*ℤ-assoc}
 use Rattle.finite.proofs.Sum.{sum-cong, sum-scale}
-
-pub each : (P : ℕ → Type 0) → P 0 → P 1 → P 2 → P 3 → (k : ℕ) → k < 4 → P k
-each P a b c d zero h = a
-each P a b c d (suc zero) h = b
-each P a b c d (suc (suc zero)) h = c
-each P a b c d (suc (suc (suc zero))) h = d
-each P a b c d (suc (suc (suc (suc k)))) h = absurd (omega arith)
 
 pub four : {A : Type 0} {a b c d a′ b′ c′ d′ : A} → a ≡ a′ → b ≡ b′ → c ≡ c′ → d ≡ d′
     → a ∷ b ∷ c ∷ d ∷ [] ≡ a′ ∷ b′ ∷ c′ ∷ d′ ∷ []

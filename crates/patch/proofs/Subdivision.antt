@@ -8,23 +8,26 @@ use borrow.Author.Tests.{ne-eqb}
 use lib.IntN.{ℤ, pos, natAbs, _+ℤ_, _*ℤ_, +ℤ-idl, +ℤ-idr, zero-*ℤ}
 use lib.Dec.{lit<}
 use lib.ListN.{getD}
+use mir.Syntax.{w64}
+use mir.Val.{SFits, toZ, ofZ}
+use mir.ValLaws.{toZ-ofZ}
 use Rattle.finite.specs.Range.{sum, sum2}
 use Rattle.finite.proofs.Int.{*ℤ-add, one-*ℤ}
 use Rattle.finite.proofs.Sum.{sum-swap, sum2-cong}
-use Rattle.surface.specs.Patch.{stencil, subdivided}
+use Rattle.surface.specs.Patch.{stencil}
 use Rattle.patch.specs.Patches.{entry, Bounded, Subdivided}
-use Rattle.patch.specs.Steps.{evenOf, oddOf, childrenOf, columnOf, alongOf}
-use Rattle.patch.proofs.Size.{abs-add, abs-mul}
+use Rattle.patch.specs.Steps.{Small, evenOf, oddOf, childrenOf, columnOf, alongOf}
+use Rattle.patch.proofs.Size.{abs-add, abs-mul, kept}
 use Rattle.patch.proofs.Four.{each, four, nested}
 
 -- child c of the function f, from its three possible parents
-abbrev child : ℕ → (ℕ → ℤ) → ℤ
+abbrev pub child : ℕ → (ℕ → ℤ) → ℤ
 child c f = sum 3 (λ i. pos (stencil c i) *ℤ f (c / 2 + i))
 
-even-child : (x y z : ℤ) → evenOf x y ≡ pos 0 +ℤ pos 4 *ℤ x +ℤ pos 4 *ℤ y +ℤ pos 0 *ℤ z
+pub even-child : (x y z : ℤ) → evenOf x y ≡ pos 0 +ℤ pos 4 *ℤ x +ℤ pos 4 *ℤ y +ℤ pos 0 *ℤ z
 even-child x y z = rw (+ℤ-idl, zero-*ℤ z, +ℤ-idr) (*ℤ-add (pos 4) x y)
 
-odd-child : (x y z : ℤ) → oddOf x y z ≡ pos 0 +ℤ pos 1 *ℤ x +ℤ pos 6 *ℤ y +ℤ pos 1 *ℤ z
+pub odd-child : (x y z : ℤ) → oddOf x y z ≡ pos 0 +ℤ pos 1 *ℤ x +ℤ pos 6 *ℤ y +ℤ pos 1 *ℤ z
 odd-child x y z = rw (+ℤ-idl, one-*ℤ x, one-*ℤ z)
 
 -- the code's four are those of the stencil
@@ -57,6 +60,20 @@ module _ (a b c d : ℤ) {x y z t : ℤ} (g : ℕ) where
   unfolding childrenOf
   second-half e p q r s = rw (ne-eqb g 0 e) (four p q r s)
 
+-- a number that was written is small still
+pub small : (z : ℤ) → Small z → Small (toZ w64 (ofZ w64 z))
+small z h = rw (kept z h (lit< tt)) h
+
+-- what the calls give, of the numbers that were passed
+pub even-value : (x y : ℤ) {r : ℤ} → SFits w64 r → Small x → Small y
+    → r ≡ evenOf (toZ w64 (ofZ w64 x)) (toZ w64 (ofZ w64 y)) → toZ w64 (ofZ w64 r) ≡ evenOf x y
+even-value x y {r} f hx hy e = toZ-ofZ w64 r f ∙ e ∙ rw (kept x hx (lit< tt), kept y hy (lit< tt))
+
+pub odd-value : (x y z : ℤ) {r : ℤ} → SFits w64 r → Small x → Small y → Small z
+    → r ≡ oddOf (toZ w64 (ofZ w64 x)) (toZ w64 (ofZ w64 y)) (toZ w64 (ofZ w64 z)) → toZ w64 (ofZ w64 r) ≡ oddOf x y z
+odd-value x y z {r} f hx hy hz e =
+    toZ-ofZ w64 r f ∙ e ∙ rw (kept x hx (lit< tt), kept y hy (lit< tt), kept z hz (lit< tt))
+
 -- ---- the meaning of two steps
 
 -- a row of the step's result has the children of a column
@@ -79,7 +96,7 @@ child-cong g f f′ hg k hk e =
     (children-of g refl (e 0 (lit< tt)) (e 1 (lit< tt)) (e 2 (lit< tt)) (e 3 (lit< tt)))
     ∙ children-are g f′ hg k hk
 
-child-nested : (c d : ℕ) (f : ℕ → ℕ → ℤ)
+pub child-nested : (c d : ℕ) (f : ℕ → ℕ → ℤ)
     → child d (λ j. child c (λ i. f i j))
     ≡ sum2 3 3 (λ i j. pos (stencil c i * stencil d j) *ℤ f (c / 2 + i) (d / 2 + j))
 child-nested c d f =
@@ -99,12 +116,12 @@ subdivides p g h hg hh k l hk hl =
 -- ---- bounds
 
 module _ {m : ℕ} where
-  even-size : (x y : ℤ) → natAbs x ≤ m → natAbs y ≤ m → natAbs (evenOf x y) ≤ 8 * m
+  pub even-size : (x y : ℤ) → natAbs x ≤ m → natAbs y ≤ m → natAbs (evenOf x y) ≤ 8 * m
   even-size x y hx hy =
       let s = abs-mul (pos 4) (x +ℤ y) (le-refl 4) (abs-add x y hx hy) in
       omega arith
 
-  odd-size : (x y z : ℤ) → natAbs x ≤ m → natAbs y ≤ m → natAbs z ≤ m → natAbs (oddOf x y z) ≤ 8 * m
+  pub odd-size : (x y z : ℤ) → natAbs x ≤ m → natAbs y ≤ m → natAbs z ≤ m → natAbs (oddOf x y z) ≤ 8 * m
   odd-size x y z hx hy hz =
       let s = abs-add (x +ℤ pos 6 *ℤ y) z (abs-add x (pos 6 *ℤ y) hx (abs-mul (pos 6) y (le-refl 6) hy)) hz in
       omega arith

@@ -7,7 +7,7 @@ ghost use Rattle.patch.specs.Steps.{midway, Small, evenOf, oddOf, childr
 ghost use Rattle.patch.specs.Steps.{splinesOf, Weights, Row, weighed};
 
 // An even child, of two parents in a row.
-fn even(x: i64, y: i64) -> i64
+pub fn even(x: i64, y: i64) -> i64
     requires { ⌜ Small x × Small y ⌝ }
     ensures { λ r. ⌜ r ≡ evenOf x y ⌝ }
 {
@@ -15,7 +15,7 @@ fn even(x: i64, y: i64) -> i64
 }
 
 // An odd child, of three.
-fn odd(x: i64, y: i64, z: i64) -> i64
+pub fn odd(x: i64, y: i64, z: i64) -> i64
     requires { ⌜ Small x × Small y × Small z ⌝ }
     ensures { λ r. ⌜ r ≡ oddOf x y z ⌝ }
 {

@@ -2,7 +2,7 @@
 use mathlib.Core.Path.{_≡_, refl, sym, ap, ap₂, _∙_}
 use mathlib.Core.Bool.{Bool, true, false, not, _&&_, cond}
 use mathlib.Core.List.{List}
-use Prim.Native.Nat.{ℕ, zero, suc, _≤_, _<_}
+use Prim.Native.Nat.{ℕ, _≤_, _<_}
 use borrow.Author.Tests.{ltb-true, leb-true, lt-ltb, le-ltb, eq-eqb, ne-eqb}
 use lib.Dec.{leb, ltb, eqb}
 use lib.ListN.{length}
@@ -18,23 +18,8 @@ use Rattle.surface.proofs.TableLaws.{cause-none}
 use Rattle.quadtree.specs.Paint.{levelMap}
 use Rattle.quadtree.specs.Visit.{InSheet, LeastUnder}
 use Rattle.activity.specs.Mark.{levelMarks, activeMark}
+use Rattle.answers.proofs.AnswerLaws.{first, refusal, kept}
 use Rattle.table.proofs.CauseLaws.{map-least}
-
--- ---- causes and answers
-
--- the first cause, where it applies
-first : (r n : ℕ) → (r ≡ 0 → ⊥) → r ≡ r orElse n
-first zero n h = absurd (h refl)
-first (suc r) n h = refl
-
--- a cause is the refusal, and the buffer keeps its contents
-refusal : {A : Type 0} (n : ℕ) (a : A) → (n ≡ 0 → ⊥) → refused n ≡ answer n a
-refusal zero a h = absurd (h refl)
-refusal (suc n) a h = refl
-
-kept : {A : Type 0} (n : ℕ) (old new : A) → (n ≡ 0 → ⊥) → old ≡ afterwards n old new
-kept zero old new h = absurd (h refl)
-kept (suc n) old new h = refl
 
 -- ---- the least level under a box
 

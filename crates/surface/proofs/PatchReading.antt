@@ -33,6 +33,19 @@ stencil-inside c i hc hi w = go (ℕ-discrete (c % 2) 0) (ℕ-discrete i 2)
     go (yes e) (no f) = omega arith
     go (no e) f = omega arith
 
+-- a subdivision step looks only at the sixteen entries of the coarser patch
+pub subdivided-cong : (g h : ℕ) (p q : ℕ → ℕ → ℤ) → g ≤ 1 → h ≤ 1
+    → ((i j : ℕ) → i < 4 → j < 4 → p i j ≡ q i j)
+    → (k l : ℕ) → k < 4 → l < 4 → subdivided g h p k l ≡ subdivided g h q k l
+subdivided-cong g h p q hg hh e k l hk hl =
+    let c = g + k in
+    let d = h + l in
+    weighted-cong 3 3 (λ i j. stencil c i * stencil d j) (λ i j. p (c / 2 + i) (d / 2 + j))
+    (λ i j. q (c / 2 + i) (d / 2 + j))
+    (λ i j hi hj w. let f = factors (stencil c i) (stencil d j) w in
+    e (c / 2 + i) (d / 2 + j) (stencil-inside c i (omega arith) hi (f .0))
+    (stencil-inside d j (omega arith) hj (f .1)))
+
 -- a child's parents by its place in the finer patch: c′ is the finer cell, c the coarser
 shifted : (c c′ h k : ℕ) → h ≤ 1 → c′ ≡ 2 * c + h → ((c′ + k) % 2 ≡ (c′ % 2 + k) % 2) ×
     ((c′ + k) / 2 ≡ c + (c′ % 2 + k) / 2)
@@ -77,12 +90,8 @@ module _ (W H : ℕ) (lev : ℕ → ℕ → ℕ) (coef : ℕ → ℕ → ℕ →
       let h = cv (suc L) % 2 + l in
       let iu = cell-inside W (suc L) u pW hu hL in
       let iv = cell-inside H (suc L) v pH hv hL in
-      weighted-cong 3 3 (λ i j. stencil g i * stencil h j)
-      (λ i j. patch W H lev coef u v L (g / 2 + i) (h / 2 + j))
-      (λ i j. carried W H lev coef L (cu L + (g / 2 + i)) (cv L + (h / 2 + j)))
-      (λ i j hi hj p. let f = factors (stencil g i) (stencil h j) p in
-      ih (g / 2 + i) (h / 2 + j)
-      (stencil-inside g i (omega arith) hi (f .0)) (stencil-inside h j (omega arith) hj (f .1)))
+      subdivided-cong (cu (suc L) % 2) (cv (suc L) % 2) (patch W H lev coef u v L)
+      (λ i j. carried W H lev coef L (cu L + i) (cv L + j)) (omega arith) (omega arith) ih k l hk hl
       ∙ sum2-cong 3 3
       (λ i j. pos (stencil g i * stencil h j) *ℤ carried W H lev coef L (cu L + (g / 2 + i)) (cv L + (h / 2 + j)))
       (λ i j. pos (stencil (cu (suc L) + k) i * stencil (cv (suc L) + l) j)

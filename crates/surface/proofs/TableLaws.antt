@@ -76,6 +76,13 @@ pub start-mono : (W H k L : ℕ) → start W H L ≤ start W H (k + L)
 start-mono W H zero L = rw (zero-add L) (le-refl (start W H L))
 start-mono W H (suc k) L = rw (suc-add k L) (omega (arith, start-mono W H k L, start-step W H (k + L)))
 
+-- a level's part ends before a later level's starts
+pub start-before : (W H L M : ℕ) → L < M → start W H L + places W H L ≤ start W H M
+start-before W H L M h =
+    let e : M - suc L + suc L ≡ M = omega arith in
+    subst (λ k. k ≤ start W H M) (start-step W H L)
+    (subst (λ k. start W H (suc L) ≤ start W H k) e (start-mono W H (M - suc L) (suc L)))
+
 module _ (W H : ℕ) (f : ℕ → ℕ → ℕ → ℤ) where
   abbrev part : ℕ → List ℤ
   part L = grid (functions W L) (functions H L) (f L)
@@ -142,17 +149,18 @@ module _ (W H : ℕ) (f : ℕ → ℕ → ℕ → ℤ) where
   slice-coefficient L a b hL ha hb =
       at-place L 4 0 L (place W H L a b) a b (add-zero L) hL ha hb (zero-add (place W H L a b))
 
--- each function's place is in the slice
-pub place-in-slice : (W H L a b : ℕ) → L < 4 → a < functions W L → b < functions H L → place W H L a b < slots W H
-place-in-slice W H L a b hL ha hb =
-    let e : 3 - L + suc L ≡ 4 = omega arith in
+-- each function's place is before a later level's part, and in the slice
+pub place-before : (W H L M a b : ℕ) → L < M → a < functions W L → b < functions H L → place W H L a b < start W H M
+place-before W H L M a b h ha hb =
     omega (
       arith,
       place-below (functions W L) (functions H L) a b ha hb,
-      start-step W H L,
       mul-comm (functions W L) (functions H L),
-      subst (λ k. start W H (suc L) ≤ start W H k) e (start-mono W H (3 - L) (suc L)),
+      start-before W H L M h,
     )
+
+pub place-in-slice : (W H L a b : ℕ) → L < 4 → a < functions W L → b < functions H L → place W H L a b < slots W H
+place-in-slice W H L a b hL ha hb = place-before W H L 4 a b hL ha hb
 
 -- ---- tests at each function
 

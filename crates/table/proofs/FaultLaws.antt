@@ -1,21 +1,20 @@
--- Laws of the loops over a level's rows and over the levels: where a row stands, and one row or level more.
+-- Laws of the loops over a level's rows and over the levels: one row or level more.
 use mathlib.Core.Path.{_≡_, refl, sym, ap, ap₂, _∙_, subst}
 use mathlib.Core.Bool.{Bool, true, false, not, _&&_, _||_}
 use mathlib.Core.List.{List}
-use Prim.Native.Nat.{ℕ, suc, _+_, _-_, _*_, _^_, _≤_, _<_}
-use native.Mathlib.Nat.{mul-comm, suc-mul, mul-le-mul, mul-le-mul-right, mul-le-mul-left, pow-le-pow-right}
+use Prim.Native.Nat.{ℕ, _+_, _*_, _^_, _≤_, _<_}
+use native.Mathlib.Nat.{mul-comm, mul-le-mul-left, pow-le-pow-right}
 use native.Mathlib.Numerals.{add-one}
 use native.Mathlib.Omega.{arith}
 use lib.IntN.{ℤ, pos}
-use lib.ListN.{length, getD, take, drop, length-take, length-drop}
-use lib.Seq.{getD-take, getD-drop}
+use lib.ListN.{length, getD}
 use Rattle.finite.specs.Range.{every, every2}
 use Rattle.finite.proofs.Tests.{every-cong, every2-cong, every2-true, every2-intro}
 use Rattle.finite.proofs.Table.{place-below}
 use Rattle.surface.specs.Sheet.{functions}
 use Rattle.surface.specs.Support.{leastUnder}
-use Rattle.surface.specs.Table.{limit, places, start, slots, coefficients}
-use Rattle.surface.proofs.TableLaws.{start-step, start-mono}
+use Rattle.surface.specs.Table.{limit, places, start, coefficients}
+use Rattle.coefficients.proofs.Parts.{part, part-length, part-at}
 use Rattle.activity.specs.Minima.{levelsOf}
 use Rattle.table.specs.Faults.{Test, holdsAt, holdsOn, partHoldsAt, partHolds}
 
@@ -59,51 +58,12 @@ rows-done W H lev part L k e p =
     ap (λ k. not (holdsBelow p W H lev part L k)) e
     ∙ ap not (every-swap (functions W L) (functions H L) (λ a b. partHoldsAt p W H lev part L a b))
 
--- ---- where a row and a level stand
+-- ---- a level's limit, and its coefficients
 
 pub limit-below : (L : ℕ) → L ≤ 3 → limit L < 9000000000
 limit-below L h =
     let power : 64 ^ L ≤ 262144 = pow-le-pow-right {n = 64} (omega arith) {i = L} {j = 3} h in
     omega (arith, mul-le-mul-left 32000 power)
-
-pub row-small : (b n : ℕ) → b < 67 → n ≤ 67 → b * n ≤ 4489
-row-small b n hb hn = let few : b ≤ 67 = omega arith in mul-le-mul few hn
-
--- in the level's part
-pub row-fits : (W H L n b : ℕ) → n ≡ functions W L → b < functions H L → b * n + n ≤ places W H L
-row-fits W H L n b columns below =
-    let fits : b * functions W L + functions W L ≤ places W H L =
-    omega (
-      arith,
-      mul-le-mul-right (functions W L) below,
-      suc-mul b (functions W L),
-      mul-comm (functions W L) (functions H L),
-    ) in
-    rw columns fits
-
--- the level's part in the slice
-pub level-fits : (W H L first size : ℕ) → L ≤ 3 → first ≡ start W H L → size ≡ places W H L
-    → first + size ≤ slots W H
-level-fits W H L first size low begins sized =
-    let four : (3 - L) + suc L ≡ 4 = omega arith in
-    let inside : start W H L + places W H L ≤ slots W H =
-    subst (λ k. k ≤ slots W H) (start-step W H L)
-    (subst (λ k. start W H (suc L) ≤ start W H k) four (start-mono W H (3 - L) (suc L))) in
-    rw (begins, sized) inside
-
--- ---- a part of a list
-
--- n coefficients from a place on
-abbrev pub part : ℕ → ℕ → List ℤ → List ℤ
-part from n cs = take (from + n - from) (drop from cs)
-
-pub part-length : (from n : ℕ) (cs : List ℤ) → from + n ≤ length cs → length (part from n cs) ≡ n
-part-length from n cs h = simp (length-take, length-drop) (omega arith)
-
-part-at : (from n : ℕ) (cs : List ℤ) (a : ℕ) → a < n → getD (part from n cs) a (pos 0) ≡ getD cs (from + a) (pos 0)
-part-at from n cs a h =
-    let inner : a < from + n - from = omega arith in
-    getD-take (from + n - from) (drop from cs) a (pos 0) inner ∙ getD-drop from cs a (pos 0)
 
 -- a test of a row's coefficients and of the least levels found is the test at the functions of row b
 pub row-holds : (W H L b n : ℕ) (cs : List ℤ) (map least : List ℕ) → n ≡ functions W L → b * n + n ≤ length cs
@@ -119,18 +79,24 @@ row-holds W H L b n cs map least columns fits under p =
     (part-at (b * n) n cs a (subst (λ k. a < k) (sym columns) ha) ∙ ap (λ k. getD cs (b * k + a) (pos 0)) columns)
     (under a ha))
 
+-- a coefficient of a level stands in the level's part
+pub level-at : (W H L first size : ℕ) (cs : List ℤ) → first ≡ start W H L → size ≡ places W H L → (a b : ℕ)
+    → a < functions W L → b < functions H L
+    → getD (part first size cs) (b * functions W L + a) (pos 0) ≡ coefficients W H cs L a b
+unfolding coefficients
+level-at W H L first size cs begins sized a b ha hb =
+    part-at first size cs (b * functions W L + a)
+    (subst (λ k. b * functions W L + a < k) (mul-comm (functions H L) (functions W L) ∙ sym sized)
+    (place-below (functions W L) (functions H L) a b ha hb))
+    ∙ ap (λ k. getD cs (k + (b * functions W L + a)) (pos 0)) begins
+
 -- a test of the level's part is the test of the level's coefficients in the slice
 level-holds : (W H L first size : ℕ) (lev : ℕ → ℕ → ℕ) (cs : List ℤ) → first ≡ start W H L
     → size ≡ places W H L → (p : Test) → partHolds p W H lev (part first size cs) L ≡ holdsOn p W H lev cs L
-unfolding coefficients
 level-holds W H L first size lev cs begins sized p =
     every2-cong (functions W L) (functions H L) (λ a b. partHoldsAt p W H lev (part first size cs) L a b)
     (λ a b. holdsAt p W H lev cs L a b)
-    λ a b ha hb. ap (λ c. p L c (leastUnder W H lev L a b))
-    (part-at first size cs (b * functions W L + a)
-    (subst (λ k. b * functions W L + a < k) (mul-comm (functions H L) (functions W L) ∙ sym sized)
-    (place-below (functions W L) (functions H L) a b ha hb))
-    ∙ ap (λ k. getD cs (k + (b * functions W L + a)) (pos 0)) begins)
+    λ a b ha hb. ap (λ c. p L c (leastUnder W H lev L a b)) (level-at W H L first size cs begins sized a b ha hb)
 
 -- a flag of the part is the flag of the level
 pub level-lost : (W H L first size : ℕ) (lev : ℕ → ℕ → ℕ) (cs : List ℤ) → first ≡ start W H L

@@ -5,6 +5,7 @@ ghost use Rattle.surface.specs.Sheet.{goodSide};
 ghost use Rattle.surface.specs.Table.{regionCause, tableCause};
 ghost use Rattle.surface.specs.Calls.{boxCause};
 ghost use Rattle.quadtree.specs.Visit.{boxOf};
+ghost use Rattle.quadtree.specs.Paint.{levelMap};
 
 fn good_side(n: usize) -> bool
     ensures { λ r. ⌜ r ≡ goodSide n ⌝ }
@@ -47,9 +48,10 @@ pub fn box_cause(w: usize, h: usize, a: quadtree::visit::Area) -> u8
     0
 }
 
-// Causes 1 to 5.
-pub fn table_cause(w: usize, h: usize, t: &[u8], cs: &[i64]) -> u8
-    ensures { λ r. ⌜ r ≡ tableCause w h (now (t .entry)) (now (cs .entry)) ⌝ }
+// Causes 1 to 5, with the map of levels where none applies.
+pub fn check(w: usize, h: usize, t: &[u8], cs: &[i64], map: &mut [u8; 1024]) -> u8
+    ensures { λ r. ⌜ (r ≡ tableCause w h (now (t .entry)) (now (cs .entry)))
+        × (r ≡ 0 → now (map .exit) ≡ levelMap (now (t .entry))) ⌝ }
 {
     let region = region_cause(w, h, t);
     if region != 0 {
@@ -59,8 +61,8 @@ pub fn table_cause(w: usize, h: usize, t: &[u8], cs: &[i64]) -> u8
     if cs.len() != slots {
         return 3;
     }
-    let map = quadtree::paint::paint(t);
-    let f = super::faults::table_faults(cs, &map, w, h);
+    *map = quadtree::paint::paint(t);
+    let f = super::faults::table_faults(cs, map, w, h);
     if f.over {
         return 4;
     }
@@ -68,4 +70,12 @@ pub fn table_cause(w: usize, h: usize, t: &[u8], cs: &[i64]) -> u8
         return 5;
     }
     0
+}
+
+// Causes 1 to 5.
+pub fn table_cause(w: usize, h: usize, t: &[u8], cs: &[i64]) -> u8
+    ensures { λ r. ⌜ r ≡ tableCause w h (now (t .entry)) (now (cs .entry)) ⌝ }
+{
+    let mut map = [0u8; 1024];
+    check(w, h, t, cs, &mut map)
 }

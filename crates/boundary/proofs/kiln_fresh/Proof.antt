@@ -2,7 +2,7 @@ use mathlib.Core.Path.{sym, ap, _∙_}
 use mir.Syntax.{w64}
 use mir.ValLaws.{toZ-ofZ}
 use Rattle.answers.specs.Answers.{lengthAnswer}
-use Rattle.boundary.proofs.CodeLaws.{length-given, length-refused}
+use Rattle.boundary.proofs.CodeLaws.{number-given, number-refused}
 use borrow.Author.Needs.{needs}
 use Rattle.boundary.proofs.kiln_fresh.Statement.{statement}
 use Rattle.boundary.proofs.kiln_fresh.Tie as tie
@@ -27,7 +27,7 @@ returns c =
     let s = c .before .before .before .before .before .before .before .before .before .before in
     let e = rw (toZ-ofZ w64 (s .args .number) (s .fits .number)) at
     (c .before .before .before .before .before .before .fresh .ensures) in
-    let t = length-given (c .before .r .given .0 .0) (s .args .length .now)
+    let t = number-given (c .before .r .given .0 .0) (s .args .length .now)
     (ap lengthAnswer (sym (c .before .r .given .1)) ∙ e .0) in
     (t .0, e .1, e .2, t .1)
 
@@ -42,7 +42,7 @@ returns-2 c =
     let s = c .before .before .before .before .before .before .before .before .before .before in
     let e = rw (toZ-ofZ w64 (s .args .number) (s .fits .number)) at
     (c .before .before .before .before .before .before .fresh .ensures) in
-    let t = length-refused (c .before .r2 .given .0 .0) (s .args .length .now)
+    let t = number-refused (c .before .r2 .given .0 .0) (s .args .length .now)
     (ap lengthAnswer (sym (c .before .r2 .given .1)) ∙ e .0) in
     (t .0, e .1, e .2, t .1)
 

@@ -1,6 +1,6 @@
 -- Each way out of `fresh_cause` gives the cause of document 01.
 use mathlib.Core.Path.{_≡_, refl, sym, ap, _∙_}
-use mathlib.Core.Bool.{true, false, _&&_}
+use mathlib.Core.Bool.{Bool, true, false, _&&_}
 use native.Mathlib.Omega.{arith}
 use borrow.Author.Needs.{needs}
 use borrow.Author.Tests.{eq-eqb, ne-eqb, lt-ltb, le-ltb}
@@ -11,9 +11,10 @@ use mir.Syntax.{w64}
 use mir.ValLaws.{toZ-ofZ}
 use Rattle.surface.specs.Sheet.{goodSide}
 use Rattle.surface.specs.Table.{slots, limit}
+use Rattle.surface.specs.Calls.{freshCause}
 use Rattle.surface.proofs.Least.{both}
 use Rattle.surface.proofs.TableLaws.{good-side}
-use Rattle.edit.proofs.FreshLaws.{fresh-by}
+use Rattle.edit.proofs.FreshLaws.{fresh, fresh-by}
 use Rattle.edit.proofs.fresh_cause.Statement.{statement}
 use Rattle.edit.proofs.fresh_cause.Tie as tie
 
@@ -69,23 +70,27 @@ sized : (c : tie.Else3)
     length (a .numbers .now) ≡ slots (a .w) (a .h)
 sized c = c .if3 .left ∙ c .before .start .ensures .0
 
-returns-3 : tie.Need-returns-3
-returns-3 c =
-    let e = c .before .before .before in
+-- by whether the tree output is short
+judged : (c : tie.Else3)
+    → let a = c .before .before .before .before .before .before .before .args in
+    (short : Bool) → short ≡ ltb (length (a .tree .now)) 1
+    → fresh true false true short ≡ freshCause (a .w) (a .h) (a .number) (a .tree .now) (a .numbers .now)
+judged c short q =
+    let e = c .before .before in
     let d = e .before .before in
     let a = d .before .before .before .args in
-    fresh-by (a .w) (a .h) (a .number) (a .tree .now) (a .numbers .now) true false true true (good d) (within e)
-    (sym (eq-eqb (length (a .numbers .now)) (slots (a .w) (a .h)) (sized (c .before))))
-    (sym (lt-ltb (length (a .tree .now)) 1 (c .if4 .taken)))
+    fresh-by (a .w) (a .h) (a .number) (a .tree .now) (a .numbers .now) true false true short (good d) (within e)
+    (sym (eq-eqb (length (a .numbers .now)) (slots (a .w) (a .h)) (sized c))) q
+
+returns-3 : tie.Need-returns-3
+returns-3 c =
+    let a = c .before .before .before .before .before .before .before .before .args in
+    judged (c .before) true (sym (lt-ltb (length (a .tree .now)) 1 (c .if4 .taken)))
 
 returns-4 : tie.Need-returns-4
 returns-4 c =
-    let e = c .before .before .before in
-    let d = e .before .before in
-    let a = d .before .before .before .args in
-    fresh-by (a .w) (a .h) (a .number) (a .tree .now) (a .numbers .now) true false true false (good d) (within e)
-    (sym (eq-eqb (length (a .numbers .now)) (slots (a .w) (a .h)) (sized (c .before))))
-    (sym (le-ltb (length (a .tree .now)) 1 (c .if4 .left)))
+    let a = c .before .before .before .before .before .before .before .before .args in
+    judged (c .before) false (sym (le-ltb (length (a .tree .now)) 1 (c .if4 .left)))
 
 returns-5 : tie.Need-returns-5
 returns-5 c =

@@ -1,26 +1,8 @@
 -- Each child is what the call gives; by the half, the first four or the last four.
-use mathlib.Core.Path.{_≡_, _∙_}
-use lib.Dec.{lit<}
-use lib.IntN.{ℤ}
-use mir.Syntax.{w64}
-use mir.Val.{SFits, toZ, ofZ}
-use mir.ValLaws.{toZ-ofZ}
 use borrow.Author.Needs.{needs, sfits-of}
-use Rattle.patch.specs.Steps.{Small, evenOf, oddOf}
-use Rattle.patch.proofs.Size.{kept}
-use Rattle.patch.proofs.Subdivision.{first-half, second-half}
+use Rattle.patch.proofs.Subdivision.{first-half, second-half, even-value, odd-value}
 use Rattle.patch.proofs.children.Statement.{statement}
 use Rattle.patch.proofs.children.Tie as tie
-
--- what the calls give, of the numbers that were passed
-even-value : (x y : ℤ) {r : ℤ} → SFits w64 r → Small x → Small y
-    → r ≡ evenOf (toZ w64 (ofZ w64 x)) (toZ w64 (ofZ w64 y)) → toZ w64 (ofZ w64 r) ≡ evenOf x y
-even-value x y {r} f hx hy e = toZ-ofZ w64 r f ∙ e ∙ rw (kept x hx (lit< tt), kept y hy (lit< tt))
-
-odd-value : (x y z : ℤ) {r : ℤ} → SFits w64 r → Small x → Small y → Small z
-    → r ≡ oddOf (toZ w64 (ofZ w64 x)) (toZ w64 (ofZ w64 y)) (toZ w64 (ofZ w64 z)) → toZ w64 (ofZ w64 r) ≡ oddOf x y z
-odd-value x y z {r} f hx hy hz e =
-    toZ-ofZ w64 r f ∙ e ∙ rw (kept x hx (lit< tt), kept y hy (lit< tt), kept z hz (lit< tt))
 
 odd-requires : tie.Need-odd-requires
 odd-requires c κs = search needs

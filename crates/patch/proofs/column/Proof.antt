@@ -2,20 +2,15 @@
 use mathlib.Core.Path.{_≡_}
 use Prim.Native.Nat.{ℕ, _<_}
 use lib.Dec.{lit<}
-use lib.IntN.{ℤ}
 use mir.Syntax.{w64}
 use mir.Val.{toZ, ofZ}
 use borrow.Author.Needs.{needs}
 use Rattle.patch.specs.Patches.{entry}
 use Rattle.patch.specs.Steps.{Small}
 use Rattle.patch.proofs.Size.{kept}
-use Rattle.patch.proofs.Subdivision.{children-of}
+use Rattle.patch.proofs.Subdivision.{children-of, small}
 use Rattle.patch.proofs.column.Statement.{statement}
 use Rattle.patch.proofs.column.Tie as tie
-
--- a number that was written is small still
-small : (z : ℤ) → Small z → Small (toZ w64 (ofZ w64 z))
-small z h = rw (kept z h (lit< tt)) h
 
 mul-children : tie.Need-mul-children
 mul-children c = search needs

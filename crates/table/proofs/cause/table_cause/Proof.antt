@@ -1,104 +1,12 @@
--- Each way out of `table_cause` gives the cause of document 01.
-use mathlib.Core.Path.{_≡_, refl, sym, _∙_}
-use mathlib.Core.Bool.{Bool, true, false, not, Bool·not-not}
-use native.Mathlib.Omega.{arith}
 use borrow.Author.Needs.{needs}
-use borrow.Author.Tests.{eq-eqb, ne-eqb}
-use lib.ListN.{length}
-use Rattle.surface.specs.Table.{slots, regionCause, tableCause}
-use Rattle.table.proofs.CauseLaws.{region-none, table, table-by, table-region, limits-flag, zeros-flag}
 use Rattle.table.proofs.cause.table_cause.Statement.{statement}
 use Rattle.table.proofs.cause.table_cause.Tie as tie
 
-region-cause-requires : tie.Need-region-cause-requires
-region-cause-requires c κs = search needs
+check-requires : tie.Need-check-requires
+check-requires c κs = search needs
 
 returns : tie.Need-returns
-returns c =
-    let a = c .before .before .before .args in
-    table-region (a .w) (a .h) (a .t .now) (a .cs .now) (c .before .region-cause .result)
-    (c .before .region-cause .ensures) (c .if1 .taken)
-
--- past the first two causes
-none : (c : tie.Else1)
-    → let a = c .before .before .before .args in 0 ≡ regionCause (a .w) (a .h) (a .t .now)
-none c = sym (c .if1 .left) ∙ c .before .region-cause .ensures
-
-start-requires : tie.Need-start-requires
-start-requires c κs =
-    let a = c .before .before .before .args in
-    let sides = region-none (a .w) (a .h) (a .t .now) (none c) in
-    (sides .1, sides .2, omega arith)
-
-returns-2 : tie.Need-returns-2
-returns-2 c =
-    let d = c .before .before in
-    let a = d .before .before .before .args in
-    let cs = a .cs .now in
-    let other : length cs ≡ slots (a .w) (a .h) → ⊥ = λ e. c .if2 .taken (e ∙ sym (c .before .start .ensures .0)) in
-    table-by (a .w) (a .h) (a .t .now) cs false _ _ (none d) (sym (ne-eqb (length cs) (slots (a .w) (a .h)) other))
-    refl refl
-
--- past the third
-size : (c : tie.Else2)
-    → let a = c .before .before .before .before .before .args in length (a .cs .now) ≡ slots (a .w) (a .h)
-size c = c .if2 .left ∙ c .before .start .ensures .0
-
-paint-requires : tie.Need-paint-requires
-paint-requires c κs =
-    let d = c .before .before in
-    let a = d .before .before .before .args in
-    (a .w, a .h, region-none (a .w) (a .h) (a .t .now) (none d) .3)
-
-table-faults-requires : tie.Need-table-faults-requires
-table-faults-requires c κs =
-    let e = c .before .before in
-    let d = e .before .before in
-    let a = d .before .before .before .args in
-    let sides = region-none (a .w) (a .h) (a .t .now) (none d) in
-    (sides .0, sides .1, sides .2, size e)
-
--- by the flags of the faults
-flagged : (c : tie.After-table-faults) (l z : Bool) → c .table-faults .result .over ≡ not l
-    → c .table-faults .result .stray ≡ not z
-    → let a = c .before .before .before .before .before .before .before .before .args in
-    table 0 true l z ≡ tableCause (a .w) (a .h) (a .t .now) (a .cs .now)
-flagged c l z over stray =
-    let painted = c .before .before in
-    let map = painted .paint .result in
-    let e = painted .before in
-    let d = e .before .before in
-    let a = d .before .before .before .args in
-    let cs = a .cs .now in
-    let t = a .t .now in
-    let sides = region-none (a .w) (a .h) t (none d) in
-    table-by (a .w) (a .h) t cs true l z (none d) (sym (eq-eqb (length cs) (slots (a .w) (a .h)) (size e)))
-    (limits-flag (a .w) (a .h) t cs map (sides .1) (sides .2) (painted .paint .ensures)
-    (c .table-faults .ensures .limited) over)
-    (zeros-flag (a .w) (a .h) t cs map (sides .1) (sides .2) (painted .paint .ensures)
-    (c .table-faults .ensures .zeroed) stray)
-
-returns-3 : tie.Need-returns-3
-returns-3 c =
-    let stray = c .before .table-faults .result .stray in
-    flagged (c .before) false (not stray) (c .if3 .taken) (sym (Bool·not-not stray))
-
-returns-4 : tie.Need-returns-4
-returns-4 c = flagged (c .before .before) true false (c .before .if3 .left) (c .if4 .taken)
-
-returns-5 : tie.Need-returns-5
-returns-5 c = flagged (c .before .before) true true (c .before .if3 .left) (c .if4 .left)
+returns c = c .check .ensures .0
 
 pub table-cause-spec : {M : Type 1} → statement M
-table-cause-spec =
-    tie.close
-    (tie.spec
-    region-cause-requires
-    returns
-    start-requires
-    returns-2
-    paint-requires
-    table-faults-requires
-    returns-3
-    returns-4
-    returns-5)
+table-cause-spec = tie.close (tie.spec check-requires returns)

@@ -12,9 +12,9 @@ use mir.Val.{toZ, ofZ}
 use mir.ValLaws.{toZ-ofZ}
 use Rattle.activity.specs.Minima.{levelsOf}
 use Rattle.surface.specs.Table.{limit}
+use Rattle.coefficients.proofs.Parts.{row-small, row-fits, part-length}
 use Rattle.table.specs.Faults.{limits, zeros}
-use Rattle.table.proofs.FaultLaws.{none-lost, lost-more, holdsBelow, rows-done, limit-below}
-use Rattle.table.proofs.FaultLaws.{row-small, row-fits, part-length, row-holds}
+use Rattle.table.proofs.FaultLaws.{none-lost, lost-more, holdsBelow, rows-done, limit-below, row-holds}
 use Rattle.table.proofs.faults.level_faults.Statement.{statement}
 use Rattle.table.proofs.faults.level_faults.Tie as tie
 

@@ -8,8 +8,9 @@ use borrow.Author.Needs.{needs}
 use lib.ListN.{length}
 use Rattle.finite.specs.Range.{every}
 use Rattle.activity.specs.Minima.{levelsOf}
+use Rattle.coefficients.proofs.Parts.{level-fits, part-length}
 use Rattle.table.specs.Faults.{limits, zeros, holdsOn}
-use Rattle.table.proofs.FaultLaws.{none-lost, lost-more, level-fits, part-length, level-lost}
+use Rattle.table.proofs.FaultLaws.{none-lost, lost-more, level-lost}
 use Rattle.table.proofs.faults.table_faults.Statement.{statement}
 use Rattle.table.proofs.faults.table_faults.Tie as tie
 

@@ -1,0 +1,58 @@
+-- Laws of causes, answers and lent buffers that the calls share.
+use mathlib.Core.Path.{_≡_, refl, ap, subst, _∙_}
+use Prim.Native.Nat.{ℕ, zero, suc}
+use Rattle.surface.specs.Table.{_orElse_}
+use Rattle.surface.specs.Calls.{Answer, refused, gives, answer, afterwards}
+
+-- the first cause, where it applies
+pub first : (r n : ℕ) → (r ≡ 0 → ⊥) → r ≡ r orElse n
+first zero n h = absurd (h refl)
+first (suc r) n h = refl
+
+-- a cause is the refusal, and the buffer keeps its contents
+pub refusal : {A : Type 0} (n : ℕ) (a : A) → (n ≡ 0 → ⊥) → refused n ≡ answer n a
+refusal zero a h = absurd (h refl)
+refusal (suc n) a h = refl
+
+pub kept : {A : Type 0} (n : ℕ) (old new : A) → (n ≡ 0 → ⊥) → old ≡ afterwards n old new
+kept zero old new h = absurd (h refl)
+kept (suc n) old new h = refl
+
+-- ---- a call that makes something of another's answer
+
+module _ {A B : Type 0} where
+  abbrev mapped : (A → B) → Answer A → Answer B
+  mapped f (refused n) = refused n
+  mapped f (gives a) = gives (f a)
+
+  mapped-answer : (c : ℕ) (a : A) (f : A → B) → mapped f (answer c a) ≡ answer c (f a)
+  mapped-answer zero a f = refl
+  mapped-answer (suc c) a f = refl
+
+  pub refused-by : {m : ℕ} (c : ℕ) (a : A) (f : A → B) → refused m ≡ answer c a → refused m ≡ answer c (f a)
+  refused-by c a f e = ap (mapped f) e ∙ mapped-answer c a f
+
+  pub gives-by : {x : A} (c : ℕ) (a : A) (f : A → B) → gives x ≡ answer c a → gives (f x) ≡ answer c (f a)
+  gives-by c a f e = ap (mapped f) e ∙ mapped-answer c a f
+
+  -- it may have a cause of its own, after the other's
+  pub refused-before : {m : ℕ} (c d : ℕ) (a : A) (b : B) → refused m ≡ answer c a → refused m ≡ answer (c orElse d) b
+  refused-before zero d a b e = absurd (subst Gives e tt)
+    where
+      Gives : Answer A → Type 0
+      Gives (refused n) = Unit
+      Gives (gives a) = ⊥
+  refused-before (suc c) d a b e = ap (mapped (λ _. b)) e
+
+  pub gives-before : {x : A} (c d : ℕ) (a : A) (f : A → B) → gives x ≡ answer c a
+      → answer d (f x) ≡ answer (c orElse d) (f a)
+  gives-before {x} zero d a f e = ap (λ y. answer d (f (value y))) e
+    where
+      value : Answer A → A
+      value (refused n) = x
+      value (gives a) = a
+  gives-before (suc c) d a f e = absurd (subst Refused e tt)
+    where
+      Refused : Answer A → Type 0
+      Refused (refused n) = ⊥
+      Refused (gives a) = Unit

@@ -1,0 +1,40 @@
+use mathlib.Core.Path.{subst}
+use lib.IntN.{ℤ}
+use Rattle.surface.specs.Calls.{Answer, exactOutcome}
+use Rattle.surface.specs.FloatReading.{FloatMeets}
+use Rattle.answers.specs.Answers.{wattsAnswer}
+use Rattle.boundary.proofs.CodeLaws.{watts-given, watts-refused}
+use borrow.Author.Needs.{needs}
+use Rattle.boundary.proofs.kiln_watts.Statement.{statement}
+use Rattle.boundary.proofs.kiln_watts.Tie as tie
+
+watts-requires : tie.Need-watts-requires
+watts-requires c κs = search needs
+
+enum-known-r : tie.Need-enum-known-r
+enum-known-r c = search needs
+
+enum-known-r-2 : tie.Need-enum-known-r-2
+enum-known-r-2 c = search needs
+
+-- the outcome that the reading meets
+abbrev exactly : (c : tie.Start) → Answer ℤ
+exactly c =
+    exactOutcome (c .args .w) (c .args .h) (c .args .tree .now) (c .args .numbers .now) (c .args .u) (c .args .v)
+
+returns : tie.Need-returns
+returns c =
+    let s = c .before .before .before .before .before in
+    watts-given (exactly s) (c .before .r .given .0 .0) (s .args .watts .now)
+    (subst (λ r. FloatMeets (exactly s) (wattsAnswer r)) (c .before .r .given .1)
+    (c .before .before .before .watts .ensures))
+
+returns-2 : tie.Need-returns-2
+returns-2 c =
+    let s = c .before .before .before .before .before in
+    watts-refused (exactly s) (c .before .r2 .given .0 .0) (s .args .watts .now)
+    (subst (λ r. FloatMeets (exactly s) (wattsAnswer r)) (c .before .r2 .given .1)
+    (c .before .before .before .watts .ensures))
+
+pub kiln-watts-spec : {M : Type 1} → statement M
+kiln-watts-spec = tie.close (tie.spec watts-requires enum-known-r enum-known-r-2 returns returns-2)

@@ -1,0 +1,83 @@
+-- The level's part of the slice has the level's coefficients, row by row.
+use mathlib.Core.Path.{_∙_}
+use Prim.Native.Nat.{_+_, _≤_}
+use native.Mathlib.Omega.{arith}
+use lib.ListN.{length}
+use borrow.Author.Needs.{needs}
+use Rattle.activity.proofs.MinimaLaws.{functions-le}
+use Rattle.coefficients.proofs.Parts.{level-fits, part-length}
+use Rattle.point.proofs.PointLaws.{rows-fit, level-own}
+use Rattle.point.proofs.own.own.Statement.{statement}
+use Rattle.point.proofs.own.own.Tie as tie
+
+functions-requires : tie.Need-functions-requires
+functions-requires c κs = search needs
+
+start-requires : tie.Need-start-requires
+start-requires c κs = search needs
+
+places-requires : tie.Need-places-requires
+places-requires c κs = search needs
+
+add-end : tie.Need-add-end
+add-end c = search needs
+
+mul-in-part : tie.Need-mul-in-part
+mul-in-part c = search needs
+
+sub-in-part : tie.Need-sub-in-part
+sub-in-part c = search needs
+
+part-in-part-start : tie.Need-part-in-part-start
+part-in-part-start c = search needs
+
+-- the level's part is inside the slice
+inside : (c : tie.After-places)
+    → c .before .start .result + c .places .result ≤ length (c .before .before .before .args .cs .now)
+inside c =
+    let s = c .before .before .before in
+    rw (s .pre .5)
+    (level-fits (s .args .w) (s .args .h) (s .args .level) (c .before .start .result) (c .places .result)
+    (s .pre .2) (c .before .start .ensures .0) (c .places .ensures .0))
+
+part-in-part-end : tie.Need-part-in-part-end
+part-in-part-end c = inside c
+
+in-part-requires : tie.Need-in-part-requires
+in-part-requires c κs =
+    let d = c .before in
+    let s = d .before .before .before in
+    let a = s .args in
+    let n = d .before .before .functions in
+    let size = part-length (d .before .start .result) (d .places .result) (a .cs .now) (inside d) in (
+      omega (arith, n .ensures .0),
+      n .ensures .1,
+      omega (arith, functions-le (a .h) (a .level) (s .pre .1) (s .pre .2)),
+      rw (size ∙ d .places .ensures .0)
+          (rows-fit (a .w) (a .h) (a .level) (a .b) (n .result) (n .ensures .0) (s .pre .4)),
+    )
+
+returns : tie.Need-returns
+returns c = λ k l hk hl.
+    let d = c .before .before in
+    let s = d .before .before .before in
+    let a = s .args in
+    c .in-part .ensures k l hk hl
+    ∙ level-own (a .w) (a .h) (a .level) (d .before .start .result) (d .places .result)
+    (d .before .before .functions .result) (a .a) (a .b) (a .cs .now) (d .before .start .ensures .0)
+    (d .places .ensures .0) (d .before .before .functions .ensures .0) (s .pre .3) (s .pre .4) k l hk hl
+
+pub own-spec : {M : Type 1} → statement M
+own-spec =
+    tie.close
+    (tie.spec
+    functions-requires
+    start-requires
+    places-requires
+    add-end
+    mul-in-part
+    sub-in-part
+    part-in-part-start
+    part-in-part-end
+    in-part-requires
+    returns)

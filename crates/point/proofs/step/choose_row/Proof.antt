@@ -1,0 +1,102 @@
+-- Each entry is what the call gives of the numbers that were read.
+use mathlib.Core.Path.{_≡_}
+use Prim.Native.Nat.{ℕ}
+use lib.IntN.{ℤ, pos}
+use lib.ListN.{getD}
+use borrow.Author.Needs.{needs, sfits-of}
+use Rattle.point.specs.Patches.{chosen}
+use Rattle.point.proofs.PointLaws.{at-four, chosen-read}
+use Rattle.point.proofs.step.choose_row.Statement.{statement}
+use Rattle.point.proofs.step.choose_row.Tie as tie
+
+array-read-choose : tie.Need-array-read-choose
+array-read-choose c = search needs
+
+array-copy-out-choose : tie.Need-array-copy-out-choose
+array-copy-out-choose c = search needs
+
+array-copy-out-choose-2 : tie.Need-array-copy-out-choose-2
+array-copy-out-choose-2 c = search needs
+
+choose-requires : tie.Need-choose-requires
+choose-requires c κs = search needs
+
+array-read-choose-2 : tie.Need-array-read-choose-2
+array-read-choose-2 c = search needs
+
+array-copy-out-choose-3 : tie.Need-array-copy-out-choose-3
+array-copy-out-choose-3 c = search needs
+
+array-copy-out-choose-4 : tie.Need-array-copy-out-choose-4
+array-copy-out-choose-4 c = search needs
+
+choose-requires-2 : tie.Need-choose-requires-2
+choose-requires-2 c κs = search needs
+
+array-read-choose-3 : tie.Need-array-read-choose-3
+array-read-choose-3 c = search needs
+
+array-copy-out-choose-5 : tie.Need-array-copy-out-choose-5
+array-copy-out-choose-5 c = search needs
+
+array-copy-out-choose-6 : tie.Need-array-copy-out-choose-6
+array-copy-out-choose-6 c = search needs
+
+choose-requires-3 : tie.Need-choose-requires-3
+choose-requires-3 c κs = search needs
+
+array-read-choose-4 : tie.Need-array-read-choose-4
+array-read-choose-4 c = search needs
+
+array-copy-out-choose-7 : tie.Need-array-copy-out-choose-7
+array-copy-out-choose-7 c = search needs
+
+array-copy-out-choose-8 : tie.Need-array-copy-out-choose-8
+array-copy-out-choose-8 c = search needs
+
+choose-requires-4 : tie.Need-choose-requires-4
+choose-requires-4 c κs = search needs
+
+returns : tie.Need-returns
+returns c =
+    let one = c .before .before .before in
+    let two = one .before .before .before in
+    let three = two .before .before .before in
+    let a = three .before .before .before .args in
+    let own : ℕ → ℤ = λ l. getD (a .t3) l (pos 0) in
+    let coarse : ℕ → ℤ = λ l. getD (a .t4) l (pos 0) in
+    at-four (λ l z. z ≡ chosen (a .level) (getD (a .t1) l 0) (own l) (coarse l)) (pos 0)
+    (chosen-read (a .level) (getD (a .t1) 0 0) (own 0) (coarse 0) (sfits-of (three .choose .ok))
+    (sfits-of (three .before .before .choose-arg .given)) (sfits-of (three .before .choose-arg2 .given))
+    (three .choose .ensures))
+    (chosen-read (a .level) (getD (a .t1) 1 0) (own 1) (coarse 1) (sfits-of (two .choose2 .ok))
+    (sfits-of (two .before .before .choose-arg3 .given)) (sfits-of (two .before .choose-arg4 .given))
+    (two .choose2 .ensures))
+    (chosen-read (a .level) (getD (a .t1) 2 0) (own 2) (coarse 2) (sfits-of (one .choose3 .ok))
+    (sfits-of (one .before .before .choose-arg5 .given)) (sfits-of (one .before .choose-arg6 .given))
+    (one .choose3 .ensures))
+    (chosen-read (a .level) (getD (a .t1) 3 0) (own 3) (coarse 3) (sfits-of (c .choose4 .ok))
+    (sfits-of (c .before .before .choose-arg7 .given)) (sfits-of (c .before .choose-arg8 .given))
+    (c .choose4 .ensures))
+
+pub choose-row-spec : {M : Type 1} → statement M
+choose-row-spec =
+    tie.close
+    (tie.spec
+    array-read-choose
+    array-copy-out-choose
+    array-copy-out-choose-2
+    choose-requires
+    array-read-choose-2
+    array-copy-out-choose-3
+    array-copy-out-choose-4
+    choose-requires-2
+    array-read-choose-3
+    array-copy-out-choose-5
+    array-copy-out-choose-6
+    choose-requires-3
+    array-read-choose-4
+    array-copy-out-choose-7
+    array-copy-out-choose-8
+    choose-requires-4
+    returns)

@@ -1,0 +1,99 @@
+-- The outcome at each way out of the readings.
+use mathlib.Core.Path.{_≡_, refl, sym, ap, _∙_, subst}
+use mathlib.Core.Bool.{Bool, true, false, not, _&&_, and-false}
+use mathlib.Core.List.{List}
+use Prim.Native.Nat.{ℕ, zero, suc, _*_, _^_, _≤_, _<_}
+use borrow.Author.Tests.{lt-ltb, le-ltb, le-leb, lt-leb}
+use lib.Dec.{leb, ltb}
+use lib.IntN.{ℤ}
+use lib.Ieee.{Float}
+use Rattle.surface.specs.Sheet.{onSheet}
+use Rattle.surface.specs.Truncation.{D}
+use Rattle.surface.specs.Table.{cause, _orElse_, tableCause, tableReading}
+use Rattle.surface.specs.Calls.{Answer, refused, gives, answer, readingCause, exactOutcome, wholeWatts}
+use Rattle.surface.specs.Calls.{displayOutcome, costOf, costOutcome}
+use Rattle.surface.specs.FloatReading.{Near, FloatMeets}
+use Rattle.surface.proofs.TableLaws.{good-side, sound}
+use Rattle.answers.proofs.AnswerLaws.{first, refusal, refused-by, gives-by, refused-before, gives-before}
+
+module _ (W H : ℕ) (t : List ℕ) (cs : List ℤ) (u v : ℕ) where
+  -- ---- the cause
+
+  reading-by : (r : ℕ) (on : Bool) → r ≡ tableCause W H t cs → on ≡ onSheet W H u v
+      → r orElse cause 6 (not on) ≡ readingCause W H t cs u v
+  unfolding readingCause
+  reading-by r on e p =
+      ap (λ r. r orElse cause 6 (not on)) e ∙ ap (λ on. tableCause W H t cs orElse cause 6 (not on)) p
+
+  table-refused : (r : ℕ) → r ≡ tableCause W H t cs → (r ≡ 0 → ⊥) → r ≡ readingCause W H t cs u v
+  table-refused r e h = first r (cause 6 (not (onSheet W H u v))) h ∙ reading-by r (onSheet W H u v) e refl
+
+  -- an acceptable table has sides of 8 or less
+  pub small-sides : 0 ≡ tableCause W H t cs → (W ≤ 8) × (H ≤ 8)
+  small-sides e = let s = sound W H t cs (sym e) in (good-side W (s .side-W) .1, good-side H (s .side-H) .1)
+
+  -- ---- the exact reading
+
+  pub exact-refused : (n : ℕ) → n ≡ tableCause W H t cs → (n ≡ 0 → ⊥) → refused n ≡ exactOutcome W H t cs u v
+  unfolding exactOutcome
+  exact-refused n e h =
+      refusal n (tableReading W H t cs u v) h
+      ∙ ap (λ m. answer m (tableReading W H t cs u v)) (table-refused n e h)
+
+  off : 0 ≡ tableCause W H t cs → false ≡ onSheet W H u v → refused 6 ≡ exactOutcome W H t cs u v
+  unfolding exactOutcome
+  off e p = ap (λ m. answer m (tableReading W H t cs u v)) (reading-by 0 false e p)
+
+  pub off-u : 0 ≡ tableCause W H t cs → 128 * W < u → refused 6 ≡ exactOutcome W H t cs u v
+  off-u e h = off e (sym (simp (lt-leb u (128 * W) h)))
+
+  pub off-v : 0 ≡ tableCause W H t cs → 128 * H < v → refused 6 ≡ exactOutcome W H t cs u v
+  off-v e h = off e (sym (simp (lt-leb v (128 * H) h, and-false)))
+
+  pub exact-given : (n : ℤ) → 0 ≡ tableCause W H t cs → u ≤ 128 * W → v ≤ 128 * H → n ≡ tableReading W H t cs u v
+      → gives n ≡ exactOutcome W H t cs u v
+  unfolding exactOutcome
+  exact-given n e hu hv p =
+      ap gives p
+      ∙ ap (λ m. answer m (tableReading W H t cs u v))
+      (reading-by 0 true e (sym (simp (le-leb u (128 * W) hu, le-leb v (128 * H) hv))))
+
+  -- ---- what follows from the exact reading
+
+  module _ (x : ℤ) (e : gives x ≡ exactOutcome W H t cs u v) where
+    pub watts-given : (y : Float) → Near (2 ^ 30) D x y → FloatMeets (exactOutcome W H t cs u v) (gives y)
+    watts-given y n = subst (λ o. FloatMeets o (gives y)) e n
+
+    pub display-given : gives (wholeWatts x) ≡ displayOutcome W H t cs u v
+    unfolding displayOutcome exactOutcome
+    display-given = gives-by (readingCause W H t cs u v) (tableReading W H t cs u v) wholeWatts e
+
+    cost-by : (tariff : ℕ) (over : Bool) → over ≡ ltb 99999 tariff
+        → answer (cause 11 over) (costOf (wholeWatts x) tariff) ≡ costOutcome W H t cs u v tariff
+    unfolding costOutcome exactOutcome
+    cost-by tariff over p =
+        gives-before (readingCause W H t cs u v) (cause 11 over) (tableReading W H t cs u v)
+        (λ n. costOf (wholeWatts n) tariff) e
+        ∙ ap (λ o. answer (readingCause W H t cs u v orElse cause 11 o)
+        (costOf (wholeWatts (tableReading W H t cs u v)) tariff)) p
+
+    pub tariff-refused : (tariff : ℕ) → 99999 < tariff → refused 11 ≡ costOutcome W H t cs u v tariff
+    tariff-refused tariff h = cost-by tariff true (sym (lt-ltb 99999 tariff h))
+
+    pub cost-given : (tariff n : ℕ) → tariff ≤ 99999 → n ≡ costOf (wholeWatts x) tariff
+        → gives n ≡ costOutcome W H t cs u v tariff
+    cost-given tariff n h p = ap gives p ∙ cost-by tariff false (sym (le-ltb 99999 tariff h))
+
+  module _ (m : ℕ) (e : refused m ≡ exactOutcome W H t cs u v) where
+    pub watts-refused : FloatMeets (exactOutcome W H t cs u v) (refused m)
+    watts-refused = subst (λ o. FloatMeets o (refused m)) e refl
+
+    pub display-refused : refused m ≡ displayOutcome W H t cs u v
+    unfolding displayOutcome exactOutcome
+    display-refused = refused-by (readingCause W H t cs u v) (tableReading W H t cs u v) wholeWatts e
+
+    pub cost-refused : (tariff : ℕ) → refused m ≡ costOutcome W H t cs u v tariff
+    unfolding costOutcome exactOutcome
+    cost-refused tariff =
+        refused-before (readingCause W H t cs u v) (cause 11 (ltb 99999 tariff)) (tableReading W H t cs u v)
+        (costOf (wholeWatts (tableReading W H t cs u v)) tariff) e

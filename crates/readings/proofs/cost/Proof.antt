@@ -1,0 +1,68 @@
+-- `cost` is that of the exact reading's whole watts, or refuses as `exact` does, then for the tariff.
+use mathlib.Core.Path.{_≡_, sym, ap, _∙_}
+use mir.Syntax.{w64}
+use mir.Val.{ofZ, toZ}
+use mir.ValLaws.{toZ-ofZ}
+use borrow.Author.Needs.{needs, sfits-of}
+use Rattle.surface.specs.Calls.{gives, wholeWatts, costOf}
+use Rattle.answers.specs.Answers.{exactAnswer}
+use Rattle.readings.proofs.ReadingLaws.{tariff-refused, cost-given, cost-refused}
+use Rattle.readings.proofs.cost.Statement.{statement}
+use Rattle.readings.proofs.cost.Tie as tie
+
+exact-requires : tie.Need-exact-requires
+exact-requires c κs = search needs
+
+enum-known-r : tie.Need-enum-known-r
+enum-known-r c = search needs
+
+returns : tie.Need-returns
+returns c =
+    let k = c .before .before in
+    let a = k .before .before .before .before .args in
+    tariff-refused (a .w) (a .h) (a .tree .now) (a .cs .now) (a .u) (a .v) (k .r .given .0 .0)
+    (ap exactAnswer (sym (k .r .given .1)) ∙ k .before .before .exact .ensures) (a .tariff) (c .if1 .taken)
+
+whole-watts-requires : tie.Need-whole-watts-requires
+whole-watts-requires c κs = search needs
+
+cost-of-requires : tie.Need-cost-of-requires
+cost-of-requires c κs = search needs
+
+enum-known-r-2 : tie.Need-enum-known-r-2
+enum-known-r-2 c = search needs
+
+returns-2 : tie.Need-returns-2
+returns-2 c =
+    let k = c .before .before .before .before in
+    let a = k .before .before .before .before .args in
+    let n = k .r .given .0 .0 in
+    let rounded = c .before .whole-watts .result in
+    let same : toZ w64 (ofZ w64 rounded) ≡ wholeWatts n =
+    toZ-ofZ w64 rounded (sfits-of (c .before .whole-watts .ok))
+    ∙ c .before .whole-watts .ensures .0
+    ∙ ap wholeWatts (toZ-ofZ w64 n (sfits-of (c .before .before .before .known-told .given .0 .1))) in
+    cost-given (a .w) (a .h) (a .tree .now) (a .cs .now) (a .u) (a .v) n
+    (ap exactAnswer (sym (k .r .given .1)) ∙ k .before .before .exact .ensures) (a .tariff) (c .cost-of .result)
+    (c .before .before .if1 .left)
+    (c .cost-of .ensures ∙ ap (λ w. costOf w (a .tariff)) same)
+
+returns-3 : tie.Need-returns-3
+returns-3 c =
+    let k = c .before in
+    let a = k .before .before .before .before .args in
+    cost-refused (a .w) (a .h) (a .tree .now) (a .cs .now) (a .u) (a .v) (k .r2 .given .0 .0)
+    (ap exactAnswer (sym (k .r2 .given .1)) ∙ k .before .before .exact .ensures) (a .tariff)
+
+pub cost-spec : {M : Type 1} → statement M
+cost-spec =
+    tie.close
+    (tie.spec
+    exact-requires
+    enum-known-r
+    returns
+    whole-watts-requires
+    cost-of-requires
+    enum-known-r-2
+    returns-2
+    returns-3)

@@ -1,0 +1,4 @@
+pub mod RaiseLaws
+pub mod BuildLaws
+pub mod RegionLaws
+pub mod PutLaws

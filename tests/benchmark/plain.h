@@ -1,0 +1,34 @@
+/* The calls of the library, under its own names (PREFIX kiln_) or under those of the plain C program (plain_). */
+#ifndef PLAIN_H
+#define PLAIN_H
+
+#include <stddef.h>
+#include <stdint.h>
+
+#ifndef PREFIX
+#define PREFIX plain_
+#endif
+#define JOINED(prefix, name) prefix##name
+#define NAMED(prefix, name) JOINED(prefix, name)
+#define CALL(name) NAMED(PREFIX, name)
+
+uint8_t CALL(table_cause)(size_t w, size_t h, const uint8_t *tree, size_t tree_len, const int64_t *numbers,
+                          size_t numbers_len);
+uint8_t CALL(least_level)(size_t w, size_t h, const uint8_t *tree, size_t tree_len, size_t u0, size_t v0, size_t u1,
+                          size_t v1, uint8_t *level, size_t *visited);
+uint8_t CALL(activity)(size_t w, size_t h, const uint8_t *tree, size_t tree_len, size_t level, uint8_t *out,
+                       size_t out_len);
+uint8_t CALL(fresh)(size_t w, size_t h, int64_t number, uint8_t *tree_out, size_t tree_len, int64_t *numbers_out,
+                    size_t numbers_len, size_t *length);
+uint8_t CALL(set)(size_t w, size_t h, const uint8_t *tree, size_t tree_len, int64_t *numbers, size_t numbers_len,
+                  size_t level, int64_t i, int64_t j, int64_t number);
+uint8_t CALL(exact)(size_t w, size_t h, const uint8_t *tree, size_t tree_len, const int64_t *numbers,
+                    size_t numbers_len, size_t u, size_t v, int64_t *numerator);
+uint8_t CALL(watts)(size_t w, size_t h, const uint8_t *tree, size_t tree_len, const int64_t *numbers,
+                    size_t numbers_len, size_t u, size_t v, double *watts);
+uint8_t CALL(display)(size_t w, size_t h, const uint8_t *tree, size_t tree_len, const int64_t *numbers,
+                      size_t numbers_len, size_t u, size_t v, int64_t *watts);
+uint8_t CALL(cost)(size_t w, size_t h, const uint8_t *tree, size_t tree_len, const int64_t *numbers,
+                   size_t numbers_len, size_t u, size_t v, size_t tariff, size_t *cost);
+
+#endif
