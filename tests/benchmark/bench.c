@@ -42,6 +42,11 @@ static unsigned set(void) {
   return CALL(set)(w, h, tree, tree_len, numbers, numbers_len, 0, 0, 0, numbers[3 * (w + 3) + 3]);
 }
 
+static unsigned insert(void) {
+  return CALL(insert)(w, h, tree, tree_len, numbers, numbers_len, 0, 0, 4 * w, 4 * h, 3, tree_out, sizeof tree_out,
+                      numbers_out, numbers_len, &amount);
+}
+
 static int64_t whole;
 static double watts_read;
 
@@ -69,7 +74,7 @@ struct call {
 static const struct call calls[] = {
   {"nothing", nothing}, {"table_check", table_check}, {"least_level", least_level}, {"activity", activity},
   {"fresh", fresh}, {"set", set},
-  {"exact", exact}, {"watts", watts}, {"display", display}, {"cost", cost},
+  {"insert", insert}, {"exact", exact}, {"watts", watts}, {"display", display}, {"cost", cost},
 };
 
 enum { CALLS = sizeof calls / sizeof *calls, DEPTH = 1 << 17, UNUSED = 0xA5 };

@@ -15,12 +15,16 @@ from surface import place_count, total_places
 
 LEAST, GREATEST = -(2**63), 2**63 - 1
 ODD_SIDES = (0, 9, 2**32 + 1, 2**64 - 1)
+ODD_LEVELS = (0, 4, 257, 2**32 + 2, 2**64 - 1)
 TARIFFS = (0, 1, 1_499, 1_500, 99_999, 100_000, 2**63)
 
 
 def table(rng: Random) -> samples.Table:
+    return table_on(rng, rng.randint(1, 8), rng.randint(1, 8))
+
+
+def table_on(rng: Random, w: int, h: int) -> samples.Table:
     """An acceptable table: unrefined, boxed, or with a level for each quarter square."""
-    w, h = rng.randint(1, 8), rng.randint(1, 8)
     kind = rng.random()
     if kind < 0.15:
         return samples.table_of(rng, w, h, tuple((0,) * 32 for _ in range(32)))
@@ -73,7 +77,8 @@ def box(rng: Random, w: int, h: int) -> Tuple[int, int, int, int]:
     w, h = min(w, 8) or 1, min(h, 8) or 1
     u0, v0, u1, v1 = samples.random_box(rng, w, h)
     return rng.choice(((u0, v0, u1, v1),) * 6 + ((u1, v0, u0, v1), (u0, v0, u1, v0), (u0, v0, 4 * w + 1, v1),
-                      (0, 0, 4 * w, 4 * h), (2**64 - 1, 0, 2**63, 1), (0, 0, 32, 32)))
+                      (0, 0, 4 * w, 4 * h), (2**64 - 1, 0, 2**63, 1), (0, 0, 32, 32),
+                      (0, 0, 2**32 + 4 * w, 2**32 + 4 * h)))
 
 
 def any_table(rng: Random) -> samples.Table:
@@ -112,6 +117,45 @@ def tariff(rng: Random) -> int:
 
 def output_length(rng: Random, exact: int) -> int:
     return rng.choice((exact,) * 6 + (exact + 1, max(exact - 1, 0), 0))
+
+
+def insertion_table(rng: Random, faulty: float) -> samples.Table:
+    """A table for insertions, this share of them damaged; mostly small sheets: the evaluator is slow on large ones."""
+    sides = range(1, 9) if rng.random() < 0.3 else (1, 1, 2, 3)
+    t = table_on(rng, rng.choice(sides), rng.choice(sides))
+    return damaged(rng, t) if rng.random() < faulty else t
+
+
+def _tree_after(t: samples.Table, given: Tuple[int, int, int, int], level: int) -> int:
+    """The length of the tree after an insertion; that of the tree before where it is refused anyway."""
+    if calls.least_level(t.w, t.h, t.tree, given).answer[0] == "refused" or level not in (1, 2, 3):
+        return len(t.tree)
+    return len(quadtree.insert_box(t.tree, t.w, t.h, given, level))
+
+
+def insertion(rng: Random, t: samples.Table) -> samples.Insertion:
+    """An insertion into a table; about one in three is refused for its box, its level or an output."""
+    inside = samples.random_box(rng, min(t.w, 8) or 1, min(t.h, 8) or 1)
+    given = rng.choice((inside, inside, inside, box(rng, t.w, t.h)))
+    level = rng.choice((1, 2, 3) * 10 + ODD_LEVELS)
+    exact, places = _tree_after(t, given, level), all_places(t.w, t.h)
+    enough = (exact, exact, exact + rng.randint(1, 40), quadtree.GREATEST_TREE, quadtree.GREATEST_TREE + 35)
+    tree_length = rng.choice(enough * 4 + (0, 1, max(exact - 1, 0)))
+    numbers_length = rng.choice((places,) * 30 + (places + 1, places - 1, 0))
+    return samples.Insertion(given, level, [at % 251 for at in range(tree_length)], list(range(7, 7 + numbers_length)))
+
+
+def grid(rng: Random, stride: int) -> List[samples.Point]:
+    """Every stride-th point of the grid of a 1 by 1 sheet along u and along v, with the far edges."""
+    across, along = ({*range(rng.randrange(stride), 129, stride), 128} for _ in range(2))
+    return [(u, v) for v in sorted(along) for u in sorted(across)]
+
+
+def reading_points(rng: Random, w: int, h: int) -> List[samples.Point]:
+    """Where a list of insertions is read before and after it: on 1 by 1 the grid, seldom all of it, else at random."""
+    if (w, h) == (1, 1):
+        return grid(rng, 1 if rng.random() < 0.02 else 8)
+    return samples.random_points(rng, min(w, 8) or 1, min(h, 8) or 1, 100)
 
 
 def level_places(t: samples.Table, level: int) -> int:

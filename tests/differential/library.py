@@ -57,6 +57,18 @@ def numbers(values: Sequence[int]) -> Lent:
     return Lent(ctypes.c_int64, values)
 
 
+def differ(words: str, got, want, *buffers: Tuple[Lent, Sequence[int]]) -> str:
+    """Empty where the answer, the buffers and the guards are as they should be."""
+    if got != want:
+        return f"{words}: answers {got}, should be {want}"
+    for at, (lent, after) in enumerate(buffers):
+        if not lent.guarded():
+            return f"{words}: wrote beside buffer {at}"
+        if lent.values() != list(after):
+            return f"{words}: buffer {at} is not as it should be"
+    return ""
+
+
 class Library:
     """The calls under their C names, which start with a prefix. A refusal that wrote a value is told apart."""
 
@@ -85,6 +97,16 @@ class Library:
         length = ctypes.c_size_t(0xEEEE)
         n = self._call("fresh", size(w), size(h), number(value), tree_out.pointer(), size(tree_out.n),
                        numbers_out.pointer(), size(numbers_out.n), ctypes.byref(length))
+        if n:
+            return ("refused", n) if length.value == 0xEEEE else ("wrote", n)
+        return ("ok", length.value)
+
+    def insert(self, w: int, h: int, tree: Lent, values: Lent, box: Tuple[int, int, int, int], level: int,
+               tree_out: Lent, numbers_out: Lent) -> Tuple:
+        length = ctypes.c_size_t(0xEEEE)
+        n = self._call("insert", size(w), size(h), tree.pointer(), size(tree.n), values.pointer(), size(values.n),
+                       *map(size, box), size(level), tree_out.pointer(), size(tree_out.n), numbers_out.pointer(),
+                       size(numbers_out.n), ctypes.byref(length))
         if n:
             return ("refused", n) if length.value == 0xEEEE else ("wrote", n)
         return ("ok", length.value)

@@ -13,8 +13,9 @@ from random import Random
 from typing import Callable, Dict, List
 
 import cases
+import insertions
 from cases import calls
-from library import Lent, Library, build, numbers, octets
+from library import Lent, Library, build, differ, numbers, octets
 
 SEED = 20_261_115
 READINGS = ("exact", "watts", "display", "cost")
@@ -158,28 +159,18 @@ def bench_readings(lib: Library) -> List[str]:
     return [f"{words}: {got}" for words, got, want in checks if got != want]
 
 
-def differ(words: str, got, want, *buffers) -> str:
-    """Empty where the answer, the buffers and the guards are as they should be."""
-    if got != want:
-        return f"{words}: answers {got}, should be {want}"
-    for at, (lent, after) in enumerate(buffers):
-        if not lent.guarded():
-            return f"{words}: wrote beside buffer {at}"
-        if lent.values() != list(after):
-            return f"{words}: buffer {at} is not as it should be"
-    return ""
-
-
 def hold(lib: Library, words: str, total: int, seed: int) -> int:
     """Makes the bench cases and generated calls, and returns the faults."""
-    names = list(CALLS)
-    wrong = bench_sheet(lib) + bench_readings(lib)
+    tests = {**CALLS, **insertions.CALLS}
+    wrong = bench_sheet(lib) + bench_readings(lib) + insertions.bench_insertions(lib)
+    wrong += insertions.whole_grid(Random(seed), lib)
+    names = list(tests)
     for told in wrong:
-        print(f"bench sheet: {told}")
+        print(f"fixed case: {told}")
     faults = len(wrong)
     for k in range(total):
         name = names[k % len(names)]
-        fault = CALLS[name](Random(seed * 1_000_003 + k), lib)
+        fault = tests[name](Random(seed * 1_000_003 + k), lib)
         if fault:
             faults += 1
             print(f"case {k} of seed {seed}: {fault[:2000]}")

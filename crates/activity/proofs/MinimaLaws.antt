@@ -15,7 +15,7 @@ use Rattle.surface.specs.Sheet.{eighths, functions, quarters}
 use Rattle.surface.specs.Support.{lowEnd, highEnd, shares, leastWhere, leastUnder}
 use Rattle.surface.proofs.Least.{least-le-top, least-le, le-least, both, and-intro, lts-true, lts-intro, pick}
 use Rattle.surface.proofs.Least.{leastWhere-le, le-leastWhere}
-use Rattle.activity.specs.Minima.{levelsOf, leastFrom, leastBetween, rowLeast, RowMinima}
+use Rattle.activity.specs.Minima.{levelsOf, leastFrom, leastBetween, rowLeast, RowMinima, SupportMinima, Flipped}
 
 -- ---- sizes
 
@@ -188,6 +188,19 @@ pub support-least : (W H L a b : ℕ) (map minima : List ℕ) → RowMinima W H 
 support-least W H L a b map minima m ha =
     under-rows W H L a b map (λ r. getD minima (r * 80 + a) 0)
     (λ r _ hr. m .rows a r ha (omega (arith, window-fits H L b)))
+
+-- in one row, from the map with the directions exchanged
+pub flipped-least : (W L a : ℕ) (map flipped column : List ℕ) → W ≤ 8 → Flipped map flipped
+    → SupportMinima W L a flipped column → (r : ℕ) → r < 32 → getD column r 0 ≡ rowLeast W L map a r
+unfolding rowLeast
+flipped-least W L a map flipped column hW exchanged found r hr =
+    let row : ℕ → ℕ = λ q. levelsOf map q r in
+    let low = lowEnd L a / 2 in
+    let high = (highEnd W L a + 1) / 2 in
+    found .rows r (omega arith)
+    ∙ from-cong low high (λ q. getD flipped (q * 80 + r) 0) row
+    (λ q _ hq. exchanged q r (omega (arith, window-fits W L a)) hr)
+    ∙ shares-least W L a row
 
 -- ---- stores one after the other
 

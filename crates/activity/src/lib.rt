@@ -9,7 +9,8 @@ ghost use lib.ListN.{length};
 ghost use Rattle.surface.specs.Sheet.{functions};
 ghost use Rattle.surface.specs.Sheet as Sheet;
 ghost use Rattle.surface.specs.Support.{lowEnd, highEnd};
-ghost use Rattle.activity.specs.Minima.{leastBetween, MinimaInRow, RowMinima, LoweredBy, SupportMinima};
+ghost use Rattle.activity.specs.Minima.{leastBetween, RowMinima, LoweredBy, SupportMinima};
+ghost use Rattle.activity.specs.Minima.{FlippedRow, Flipped, PutColumn};
 
 fn lesser(a: u8, b: u8) -> u8
     ensures { λ r. ⌜ r ≡ min a b ⌝ }
@@ -68,43 +69,6 @@ fn least_between(map: &[u8; 1024], from: usize, to: usize) -> u8
     least
 }
 
-// Row r of the minima along u: one for each function of the level.
-fn minima_in_row(
-    map: &[u8; 1024],
-    w: usize,
-    level: usize,
-    n: usize,
-    r: usize,
-    minima: &mut [u8; 2560],
-)
-    requires { ⌜ (w ≤ 8) × (level ≤ 3) × (n ≡ functions w level) × (r < 32) × (length (now minima) ≡ 2560) ⌝ }
-    ensures { λ x. ⌜ MinimaInRow w level r (now (map .entry)) (now (minima .entry)) (now (minima .exit)) ⌝ }
-{
-    let mut a = 0;
-    while a < n {
-        let window = window_of(w, level, a);
-        let low = window.low;
-        let high = window.high;
-        minima[r * 80 + a] = least_between(map, r * 32 + low, r * 32 + high);
-        a += 1;
-    }
-}
-
-// The minima along u of all rows of the sheet.
-pub fn row_minima(map: &[u8; 1024], w: usize, h: usize, level: usize, n: usize) -> [u8; 2560]
-    requires { ⌜ (w ≤ 8) × (h ≤ 8) × (level ≤ 3) × (n ≡ functions w level) ⌝ }
-    ensures { λ r. ⌜ RowMinima w h level (now (map .entry)) r ⌝ }
-{
-    let mut minima = [3u8; 2560];
-    let rows = 4 * h;
-    let mut r = 0;
-    while r < rows {
-        minima_in_row(map, w, level, n, r, &mut minima);
-        r += 1;
-    }
-    minima
-}
-
 // Each of the 80 numbers, or that of the row at `at` if it is less.
 fn lower_by_row(least: &mut [u8; 80], minima: &[u8; 2560], at: usize)
     requires { ⌜ (at + 80 ≤ 2560) × (length (now least) ≡ 80) ⌝ }
@@ -131,4 +95,57 @@ pub fn support_minima(minima: &[u8; 2560], h: usize, level: usize, b: usize) -> 
         r += 1;
     }
     least
+}
+
+// Row q of the map with the directions exchanged.
+fn flip_row(map: &[u8; 1024], q: usize, flipped: &mut [u8; 2560])
+    requires { ⌜ (q < 32) × (length (now flipped) ≡ 2560) ⌝ }
+    ensures { λ x. ⌜ FlippedRow q (now (map .entry)) (now (flipped .entry)) (now (flipped .exit)) ⌝ }
+{
+    let mut r = 0;
+    while r < 32 {
+        flipped[q * 80 + r] = map[r * 32 + q];
+        r += 1;
+    }
+}
+
+// The map with the directions exchanged, in rows of 80 places.
+fn flip(map: &[u8; 1024]) -> [u8; 2560]
+    ensures { λ x. ⌜ Flipped (now (map .entry)) x ⌝ }
+{
+    let mut flipped = [3u8; 2560];
+    let mut q = 0;
+    while q < 32 {
+        flip_row(map, q, &mut flipped);
+        q += 1;
+    }
+    flipped
+}
+
+// Writes the minima of function a in the 32 rows.
+fn put_column(minima: &mut [u8; 2560], column: &[u8; 80], a: usize)
+    requires { ⌜ (a < 80) × (length (now minima) ≡ 2560) ⌝ }
+    ensures { λ x. ⌜ PutColumn a (now (column .entry)) (now (minima .entry)) (now (minima .exit)) ⌝ }
+{
+    let mut r = 0;
+    while r < 32 {
+        minima[r * 80 + a] = column[r];
+        r += 1;
+    }
+}
+
+// The minima along u of all rows of the sheet: those along v of the map with the directions exchanged.
+pub fn row_minima(map: &[u8; 1024], w: usize, h: usize, level: usize, n: usize) -> [u8; 2560]
+    requires { ⌜ (w ≤ 8) × (h ≤ 8) × (level ≤ 3) × (n ≡ functions w level) ⌝ }
+    ensures { λ r. ⌜ RowMinima w h level (now (map .entry)) r ⌝ }
+{
+    let flipped = flip(map);
+    let mut minima = [3u8; 2560];
+    let mut a = 0;
+    while a < n {
+        let column = support_minima(&flipped, w, level, a);
+        put_column(&mut minima, &column, a);
+        a += 1;
+    }
+    minima
 }

@@ -1,10 +1,11 @@
 -- What an answer is for another language: a refusal number, 0 for none, and values written through parameters.
 use mathlib.Core.Path.{_≡_}
+use mathlib.Core.List.{List}
 use Prim.Native.Nat.{ℕ, _^_}
 use lib.IntN.{ℤ}
 use lib.Ieee.{Float}
 use Rattle.surface.specs.Truncation.{D}
-use Rattle.surface.specs.Calls.{Answer, refused, gives, LeastLevel}
+use Rattle.surface.specs.Calls.{Answer, refused, gives, LeastLevel, Written}
 use Rattle.surface.specs.FloatReading.{Near}
 
 -- the refusal number, 0 where the call gives its result
@@ -31,3 +32,11 @@ itself n = n
 abbrev pub WattsAfter : Answer ℤ → Float → Float → Type 0
 WattsAfter (refused n) old new = new ≡ old
 WattsAfter (gives n) old new = Near (2 ^ 30) D n new
+
+-- what a call that writes a table leaves: its code, both outputs, and the parameter that receives the tree's length
+abbrev pub TableWritten : Written ℕ → ℕ → List ℕ → List ℤ → ℕ → ℕ → Type 0
+TableWritten o code tree numbers before after =
+    (code ≡ codeOf (o .result))
+    × (tree ≡ o .tree)
+    × (numbers ≡ o .numbers)
+    × (after ≡ orGiven itself (o .result) before)

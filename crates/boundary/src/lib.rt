@@ -1,13 +1,14 @@
 // The calls for other languages: plain numbers and slices in, the refusal number back, 0 where there is none. A slice
 // passes as a pointer and a length. What a call gives beside is written through its last parameters, and nothing is
-// written where it refuses.
+// written where it refuses. Buffers that are lent to one call must not overlap.
 ghost use mathlib.Core.Path.{_≡_};
 ghost use Prim.Native.Nat.{ℕ};
 ghost use Rattle.surface.specs.Table.{tableCause};
-ghost use Rattle.surface.specs.Calls.{leastOutcome, activityOutcome, freshOutcome, setOutcome};
+ghost use Rattle.surface.specs.Calls.{leastOutcome, activityOutcome, freshOutcome, insertOutcome, setOutcome};
 ghost use Rattle.surface.specs.Calls.{exactOutcome, displayOutcome, costOutcome};
-ghost use Rattle.boundary.specs.Codes.{codeOf, orGiven, levelOf, visitedOf, itself, WattsAfter};
+ghost use Rattle.boundary.specs.Codes.{codeOf, orGiven, levelOf, visitedOf, itself, WattsAfter, TableWritten};
 
+// The least level under a box: `level` receives it, `visited` the number of tree nodes visited.
 #[no_mangle]
 pub extern "C" fn kiln_least_level(
     w: usize,
@@ -43,6 +44,7 @@ pub extern "C" fn kiln_least_level(
     }
 }
 
+// The activity of a level: `out` receives one byte for each place, 1 where the function is active, else 0.
 #[no_mangle]
 pub extern "C" fn kiln_activity(w: usize, h: usize, tree: &[u8], level: usize, out: &mut [u8]) -> u8
     ensures { λ r. ⌜ (r ≡ codeOf ((activityOutcome w h (now (tree .entry)) level (now (out .entry))) .result))
@@ -65,15 +67,9 @@ pub extern "C" fn kiln_fresh(
     numbers_out: &mut [i64],
     length: &mut usize,
 ) -> u8
-    ensures { λ r. ⌜ (r
-        ≡ codeOf ((freshOutcome w h number (now («tree_out» .entry)) (now («numbers_out» .entry))) .result))
-        × (now («tree_out» .exit)
-        ≡ (freshOutcome w h number (now («tree_out» .entry)) (now («numbers_out» .entry))) .tree)
-        × (now («numbers_out» .exit)
-        ≡ (freshOutcome w h number (now («tree_out» .entry)) (now («numbers_out» .entry))) .numbers)
-        × (now (length .exit)
-        ≡ orGiven itself ((freshOutcome w h number (now («tree_out» .entry)) (now («numbers_out» .entry))) .result)
-        (now (length .entry))) ⌝ }
+    ensures { λ r. ⌜ TableWritten
+        (freshOutcome w h number (now («tree_out» .entry)) (now («numbers_out» .entry))) r
+        (now («tree_out» .exit)) (now («numbers_out» .exit)) (now (length .entry)) (now (length .exit)) ⌝ }
 {
     let r = edit::fresh(w, h, number, tree_out, numbers_out);
     match r {
@@ -85,6 +81,50 @@ pub extern "C" fn kiln_fresh(
     }
 }
 
+// Inserts a box; `length` receives the new tree's length.
+#[no_mangle]
+pub extern "C" fn kiln_insert(
+    w: usize,
+    h: usize,
+    tree: &[u8],
+    numbers: &[i64],
+    u0: usize,
+    v0: usize,
+    u1: usize,
+    v1: usize,
+    level: usize,
+    tree_out: &mut [u8],
+    numbers_out: &mut [i64],
+    length: &mut usize,
+) -> u8
+    ensures { λ r. ⌜ TableWritten
+        (insertOutcome w h (now (tree .entry)) (now (numbers .entry)) (record { u0 = u0; v0 = v0; u1 = u1; v1 = v1 })
+        level (now («tree_out» .entry)) (now («numbers_out» .entry))) r
+        (now («tree_out» .exit)) (now («numbers_out» .exit)) (now (length .entry)) (now (length .exit)) ⌝ }
+{
+    let r = insertion::insert(
+        w,
+        h,
+        tree,
+        numbers,
+        u0,
+        v0,
+        u1,
+        v1,
+        level,
+        tree_out,
+        numbers_out,
+    );
+    match r {
+        answers::Length::Bytes(n) => {
+            *length = n;
+            0
+        }
+        answers::Length::Refused(n) => n,
+    }
+}
+
+// Sets the coefficient of an active function of a level.
 #[no_mangle]
 pub extern "C" fn kiln_set(
     w: usize,

@@ -1,4 +1,4 @@
-pub mod ClearLaws
 pub mod SliceLaws
 pub mod StepLaws
 pub mod CarryLaws
+pub mod ClearLaws

@@ -1,2 +1,2 @@
-pub mod Cleared
 pub mod Carried
+pub mod Cleared

@@ -1,7 +1,6 @@
--- Linear facts on integers through `omega`: `up z` and `dn z` are the parts of z above and below zero.
--- `omega (zarith, sum-parts a b)` reads and proves orders and equations of integers, with one fact listed for each
--- sum,
--- negation or multiple that they name.
+-- Linear facts on integers through `omega`: `up z` and `dn z` are the parts of z above and below zero. `omega (zarith,
+-- sum-parts a b)` reads and proves orders and equations of integers, with one fact listed for each sum, negation or
+-- multiple that they name.
 use mathlib.Core.Path.{_≡_, refl, sym, ap, _∙_, subst}
 use mathlib.Core.Bool.{Bool, true, false, cond}
 use mathlib.Core.Logic.{_⊎_, inl, inr}

@@ -1,22 +1,20 @@
 -- The outcome at each way out of `least_level` and `activity_of`.
 use mathlib.Core.Path.{_≡_, refl, sym, ap, ap₂, _∙_}
-use mathlib.Core.Bool.{Bool, true, false, not, _&&_, cond}
+use mathlib.Core.Bool.{Bool, true, false, not, cond}
 use mathlib.Core.List.{List}
 use Prim.Native.Nat.{ℕ, _≤_, _<_}
-use borrow.Author.Tests.{ltb-true, leb-true, lt-ltb, le-ltb, eq-eqb, ne-eqb}
-use lib.Dec.{leb, ltb, eqb}
+use borrow.Author.Tests.{lt-ltb, le-ltb, eq-eqb, ne-eqb}
+use lib.Dec.{ltb, eqb}
 use lib.ListN.{length}
 use Rattle.finite.proofs.Table.{grid-cong}
-use Rattle.surface.specs.Sheet.{Box, functions, quarters}
+use Rattle.surface.specs.Sheet.{Box, functions}
 use Rattle.surface.specs.Quadtree.{visits}
 use Rattle.surface.specs.Support.{active, leastWhere, inBox}
 use Rattle.surface.specs.Table.{cause, _orElse_, treeOf, regionsOf, levels, places, regionCause}
 use Rattle.surface.specs.Calls.{refused, gives, answer, afterwards, boxCause, LeastLevel, leastOutcome}
 use Rattle.surface.specs.Calls.{activityBytes, activityCause, activityOutcome}
-use Rattle.surface.proofs.Least.{both}
-use Rattle.surface.proofs.TableLaws.{cause-none}
 use Rattle.quadtree.specs.Paint.{levelMap}
-use Rattle.quadtree.specs.Visit.{InSheet, LeastUnder}
+use Rattle.quadtree.specs.Visit.{LeastUnder}
 use Rattle.activity.specs.Mark.{levelMarks, activeMark}
 use Rattle.answers.proofs.AnswerLaws.{first, refusal, kept}
 use Rattle.table.proofs.CauseLaws.{map-least}
@@ -49,22 +47,6 @@ module _ (W H : ℕ) (t : List ℕ) (b : Box) where
       ap₂ (λ l v. answer 0 (record { level = l; visited = v })) (u .lowest) (u .counted)
       ∙ ap (λ m. answer m found) e
       ∙ ap (λ m. answer (m orElse boxCause W H b) found) r
-
--- a box of no cause 7 has area and lies in the sheet
-pub box-none : (W H : ℕ) (b : Box) → 0 ≡ boxCause W H b → InSheet W H b
-box-none W H b e =
-    let wide = ltb (b .u0) (b .u1) in
-    let high = ltb (b .v0) (b .v1) in
-    let right = leb (b .u1) (quarters W) in
-    let top = leb (b .v1) (quarters H) in
-    let all = both (wide && high) (right && top) (cause-none 6 (wide && high && (right && top)) (sym e)) in
-    let area = both wide high (all .0) in
-    let ends = both right top (all .1) in (
-      ltb-true (b .u0) (b .u1) (area .0),
-      ltb-true (b .v0) (b .v1) (area .1),
-      leb-true (b .u1) (quarters W) (ends .0),
-      leb-true (b .v1) (quarters H) (ends .1),
-    )
 
 -- ---- the activity of a level
 

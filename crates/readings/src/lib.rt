@@ -2,11 +2,12 @@
 ghost use mathlib.Core.Path.{_≡_};
 ghost use Rattle.surface.specs.Calls.{exactOutcome, displayOutcome, costOutcome};
 ghost use Rattle.surface.specs.FloatReading.{FloatMeets};
-ghost use Rattle.answers.specs.Answers.{exactAnswer, wattsAnswer, displayAnswer, costAnswer};
+ghost use Rattle.demands.specs.Promises.{ExactPromise};
+ghost use Rattle.answers.specs.Answers.{wattsAnswer, displayAnswer, costAnswer};
 
 // The exact reading at (u, v), in steps of 1/128 cell: a numerator over D = 36 × 2^42.
 pub fn exact(w: usize, h: usize, tree: &[u8], cs: &[i64], u: usize, v: usize) -> answers::Exact
-    ensures { λ r. ⌜ exactAnswer r ≡ exactOutcome w h (now (tree .entry)) (now (cs .entry)) u v ⌝ }
+    ensures { λ r. ⌜ ExactPromise w h (record { tree = now (tree .entry); numbers = now (cs .entry) }) u v r ⌝ }
 {
     let mut map = [0u8; 1024];
     let refusal = table::cause::check(w, h, tree, cs, &mut map);

@@ -42,14 +42,12 @@ half-row = refl
 -- ---- truncation
 
 -- 1 by 1, level 1 but for the four quarter squares in the middle, which have level 3. No level 2 function's support
--- lies
--- among those four, and one of level 3 does.
+-- lies among those four, and one of level 3 does.
 abbrev pub islet : ℕ → ℕ → ℕ
 islet q r = cond (leb 1 q && ltb q 3 && (leb 1 r && ltb r 3)) 3 1
 
 -- Function (−1, −1) of level 1, truncated, in the middle: worked by fractions. (Untruncated, and truncated against
--- level 2
--- only, it is 2^40 there.)
+-- level 2 only, it is 2^40 there.)
 pub three-levels : truncated 1 1 islet 64 64 2 1 2 2 ≡ pos 579820584960
 unfolding truncated sum leastUnder least eighths weight splineAt cellOf piece
 three-levels = refl

@@ -1,5 +1,5 @@
 -- The exact reading by truncated functions is the level 3 spline with the carried values for coefficients.
-use mathlib.Core.Path.{_≡_, refl, sym, ap, _∙_, subst}
+use mathlib.Core.Path.{_≡_, refl, sym, ap, ap₂, _∙_, subst}
 use mathlib.Core.Logic.{_⊎_, inl, inr}
 use mathlib.Core.Bool.{Bool, true, false, cond}
 use Prim.Native.Nat.{ℕ, zero, suc, _+_, _-_, _*_, _≤_, _<_}
@@ -13,12 +13,12 @@ use Rattle.finite.specs.Range.{sum, sum2}
 use Rattle.finite.proofs.Int.{*ℤ-assoc, *ℤ-left-comm}
 use Rattle.finite.proofs.Sum.{sum2-cong, sum2-zero, sum2-add, sum2-scale, sum2-swap}
 use Rattle.finite.proofs.Weighted.{weighted-cong, term-cong}
-use Rattle.surface.specs.Sheet.{functions}
+use Rattle.surface.specs.Sheet.{functions, quarters}
 use Rattle.surface.specs.Support.{leastUnder, active, inRegion}
 use Rattle.surface.specs.Spline.{splineAt}
 use Rattle.surface.specs.Truncation.{weight, weight2, truncated, levelReading, reading}
 use Rattle.surface.specs.Carry.{carried}
-use Rattle.surface.proofs.Least.{pick, leastUnder-parent, leastUnder-le-3}
+use Rattle.surface.proofs.Least.{pick, leastUnder-parent, leastUnder-le-3, leastUnder-cong}
 
 -- the factors of a product that is not 0
 pub factors : (x y : ℕ) → 0 < x * y → (0 < x) × (0 < y)
@@ -214,3 +214,14 @@ module _ (W H : ℕ) (lev : ℕ → ℕ → ℕ) (coef : ℕ → ℕ → ℕ →
         ∙ ap (λ t. t +ℤ own 0 3) (coarse-step 1 1 (lit< tt))
         ∙ coarse-step 0 2 (lit< tt)
         ∙ coarse-3
+
+-- the carried values depend on the levels of the sheet alone
+pub carried-cong : (W H : ℕ) (f g : ℕ → ℕ → ℕ) (coef : ℕ → ℕ → ℕ → ℤ)
+    → ((q r : ℕ) → q < quarters W → r < quarters H → f q r ≡ g q r)
+    → (L a b : ℕ) → carried W H f coef L a b ≡ carried W H g coef L a b
+unfolding carried
+carried-cong W H f g coef h zero a b = refl
+carried-cong W H f g coef h (suc L) a b =
+    ap₂ (λ l z. cond (leb (suc L) l) (coef (suc L) a b) z) (leastUnder-cong W H f g h (suc L) a b)
+    (weighted-cong (functions W L) (functions H L) (λ c d. weight c a * weight d b) (λ c d. carried W H f coef L c d)
+    (λ c d. carried W H g coef L c d) (λ c d _ _ _. carried-cong W H f g coef h L c d))

@@ -1,6 +1,5 @@
 -- Demand 1 of the outcomes: each refusal has one of the call's numbers and leaves all lent memory, and no output
--- changes its
--- length.
+-- changes its length.
 use mathlib.Core.Path.{_≡_, refl, sym, ap, _∙_, subst}
 use mathlib.Core.Bool.{Bool, true, false, not, _&&_, _||_, cond}
 use mathlib.Core.List.{List, [], _∷_, _++_}

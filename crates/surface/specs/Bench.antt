@@ -72,8 +72,7 @@ abbrev pub NextCorner : Type 0
 NextCorner = exactOutcome 1 1 flat second 0 0 ≡ gives (pos (2 ^ 46))
 
 -- "S, level 1 box 0,0 to 4,4: tree 4 4 4 1 and nine 0; 25 active, columns −32,000, 0, 32,000, 64,000, 96,000". The
--- lent
--- tree output has a byte more, which stays.
+-- lent tree output has a byte more, which stays.
 abbrev pub Inserted : Type 0
 Inserted =
     (insertOutcome 1 1 flat S (box 0 0 4 4) 1 (replicate 14 9) (replicate 211 (pos 9))

@@ -1,6 +1,5 @@
 -- Document 01, "Calls and what they decline": the whole outcome of each call on every input, as the answer and what
--- each
--- lent buffer then holds. File reading is in TableFile.
+-- each lent buffer then holds. File reading is in TableFile.
 use mathlib.Core.Bool.{Bool, true, false, not, _&&_, _||_, cond}
 use mathlib.Core.List.{List, [], _∷_, _++_}
 use Prim.Native.Nat.{ℕ, zero, suc, _+_, _*_, _/_}
@@ -137,7 +136,7 @@ indexFits n L i = leZ (negsuc 2) i && ltZ i (pos (cells n L))
 abbrev pub index : ℤ → ℕ
 index i = natAbs (i +ℤ pos 3)
 
--- 8: "level not 0 to 3 (set)"; 9: "index out of range or function passive"; 10: "number past its limit"
+-- 8: "level not ... 0 to 3 (set, activity)"; 9: "index out of range or function passive"; 10: "number past its limit"
 unfoldable pub setCause : ℕ → ℕ → List ℕ → List ℤ → ℕ → ℤ → ℤ → ℤ → ℕ
 setCause W H t cs L i j number =
     tableCause W H t cs
@@ -160,7 +159,7 @@ setOutcome W H t cs L i j number =
 unfoldable pub activityBytes : ℕ → ℕ → List ℕ → ℕ → List ℕ
 activityBytes W H t L = grid (functions W L) (functions H L) (λ a b. cond (active W H (levels t) L a b) 1 0)
 
--- 8: "level not 0 to 3 (activity)"
+-- 8: "level not ... 0 to 3 (set, activity)"
 unfoldable pub activityCause : ℕ → ℕ → List ℕ → ℕ → List ℕ → ℕ
 activityCause W H t L out = regionCause W H t orElse cause 8 (ltb 3 L) orElse lengthCause (places W H L) out
 
@@ -201,7 +200,7 @@ wholeWatts n = floorDiv (pos 2 *ℤ n +ℤ pos D) (2 * D)
 unfoldable pub displayOutcome : ℕ → ℕ → List ℕ → List ℤ → ℕ → ℕ → Answer ℤ
 displayOutcome W H t cs u v = answer (readingCause W H t cs u v) (wholeWatts (tableReading W H t cs u v))
 
--- "those whole watts times the tariff over 1,000, nearest, halves upward; 0 for watts of 0 or less"
+-- "those whole watts times the tariff ... over 1,000, nearest, halves upward; 0 for watts of 0 or less"
 abbrev pub costOf : ℤ → ℕ → ℕ
 costOf (pos w) tariff = (2 * (w * tariff) + 1000) / 2000
 costOf (negsuc w) tariff = 0

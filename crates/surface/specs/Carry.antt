@@ -12,9 +12,8 @@ abbrev pub raised : (ℕ → ℕ → ℕ) → Box → ℕ → ℕ → ℕ → �
 raised lev box n q r = cond (inBox box q r) (max (lev q r) n) (lev q r)
 
 -- "let the carried value of a function be its own coefficient when active, and the two-scale sum of its parents'
--- carried
--- values when the least old level under it is below its own". In units of 1/64^L watt the weights over 8 need no
--- division. Where the least level is above the function's own the document gives no value; this one takes the
+-- carried values when the least old level under it is below its own". In units of 1/64^L watt the weights over 8 need
+-- no division. Where the least level is above the function's own the document gives no value; this one takes the
 -- coefficient there too. No newly active function is such a one, since its least level was at most its own.
 unfoldable pub carried : ℕ → ℕ → (ℕ → ℕ → ℕ) → (ℕ → ℕ → ℕ → ℤ) → ℕ → ℕ → ℕ → ℤ
 carried W H lev coef zero a b = coef 0 a b

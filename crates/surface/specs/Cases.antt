@@ -33,7 +33,7 @@ Children =
     × (leastOutcome 8 8 mixed (box 0 0 32 32) ≡ gives (record { level = 0; visited = 9 }))
     × (leastOutcome 2 2 refined (box 4 0 8 8) ≡ gives (record { level = 0; visited = 5 }))
 
--- A box in the second cell along u: "4 4 0 4 1" and eight 0.
+-- A box in the second cell along u: 4 4 0 4 1 and eight 0.
 abbrev pub EastBox : Type 0
 EastBox =
     insertOutcome 3 1 flat (zeros 471) (box 8 0 12 4) 1 (replicate 13 9) (zeros 471) .tree
@@ -41,7 +41,7 @@ EastBox =
 
 -- ---- refusals and lent memory
 
--- "4 before 5": an active number past its limit counts before an earlier passive number that is not 0.
+-- 4 before 5: an active number past its limit counts before an earlier passive number that is not 0.
 abbrev pub LimitFirst : Type 0
 LimitFirst =
     (tableCause 1 1 refined (pos 1 ∷ (zeros 15 ++ (pos 2048001 ∷ zeros 194))) ≡ 4)

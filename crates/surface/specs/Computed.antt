@@ -1,6 +1,5 @@
 -- The definitions at work: the bench cases that compute outright and the further ones, so that a reader can hold them
--- to
--- document 01.
+-- to document 01.
 use mathlib.Core.Path.{_≡_, refl}
 use Rattle.finite.specs.Range.{sum, every, count, total, least, tableFrom, rowsFrom}
 use Rattle.surface.specs.Sheet.{eighths}

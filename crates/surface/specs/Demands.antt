@@ -68,15 +68,13 @@ pub record Refusals : Type 0 where
 -- ---- demand 2: "A function is active exactly when the selection rule of source document 003 makes it so."
 
 -- supp⁰ β ⊆ Ω^l of document 003. All edges of supports and regions are edges of level 3 cells, so a set of points is
--- the
--- set of its level 3 cells: each cell (x, y) of the cut support of function (a, b) of level L lies in a quarter
--- square of
--- level l or above.
+-- the set of its level 3 cells: each cell (x, y) of the cut support of function (a, b) of level L lies in a quarter
+-- square of level l or above.
 abbrev pub SupportIn : ℕ → ℕ → (ℕ → ℕ → ℕ) → ℕ → ℕ → ℕ → ℕ → Type 0
 SupportIn W H lev l L a b =
     (x y : ℕ) → lowEnd L a ≤ x → x < highEnd W L a → lowEnd L b ≤ y → y < highEnd H L b → l ≤ lev (x / 2) (y / 2)
 
--- "supp⁰ β ⊆ Ω^ℓ and supp⁰ β ⊄ Ω^(ℓ+1)"
+-- supp⁰ β ⊆ Ω^ℓ ∧ supp⁰ β ⊄ Ω^(ℓ+1), as document 003 has it
 abbrev pub Selected : ℕ → ℕ → (ℕ → ℕ → ℕ) → ℕ → ℕ → ℕ → Type 0
 Selected W H lev L a b = SupportIn W H lev L L a b × ¬ SupportIn W H lev (suc L) L a b
 
@@ -87,9 +85,8 @@ SelectionRule =
     → (a b : ℕ) → a < functions W L → b < functions H L
     → (getD (activityOutcome W H t L out .after) (b * functions W L + a) 0 ≡ 1) ↔ Selected W H (levels t) L a b
 
--- The ends of a cut support are where its function stops being 0: level 3 cell x lies in it exactly when the spline
--- is not
--- 0 in the middle of x. And "it holds the points strictly inside it": the points of the sheet where it is not 0.
+-- The ends of a cut support are where its function stops being 0: level 3 cell x lies in it exactly when the spline is
+-- not 0 in the middle of x. And "it holds the points strictly inside it": the points of the sheet where it is not 0.
 abbrev pub SupportIsWhereNotZero : Type 0
 SupportIsWhereNotZero =
     (n L a : ℕ) → 0 < n → L ≤ 3
@@ -97,8 +94,7 @@ SupportIsWhereNotZero =
     × ((u : ℕ) → u ≤ 128 * n → (holdsAlong L a u ≡ true) ↔ (0 < splineAt n L a u))
 
 -- "A level L function (i, j) is the product of two uniform cubic B-splines": so is its truncated function, where no
--- finer
--- function's support lies in its region.
+-- finer function's support lies in its region.
 abbrev pub Untruncated : Type 0
 Untruncated =
     (W H : ℕ) (lev : ℕ → ℕ → ℕ) (u v : ℕ) → 0 < W → 0 < H → u ≤ 128 * W → v ≤ 128 * H
@@ -153,8 +149,7 @@ OneTree =
 -- ---- demand 3: linearity, of tables that "share one sheet and one set of regions"
 
 -- "at every place the first's coefficient is a times the second's plus b times the third's, a and b whole. Then at
--- every
--- point the first's exact reading is a times the second's plus b times the third's."
+-- every point the first's exact reading is a times the second's plus b times the third's."
 abbrev pub LinearReadings : Type 0
 LinearReadings =
     (W H : ℕ) (t₁ t₂ t₃ : List ℕ) (c₁ c₂ c₃ : List ℤ) (a b : ℤ)
@@ -190,8 +185,7 @@ abbrev pub coefficientOf : (W H : ℕ) (t : List ℕ) (cs : List ℤ) (u v : ℕ
 coefficientOf W H t cs u v f = coefficients W H cs (f .L) (f .a) (f .b)
 
 -- "Exact readings are compared as numerators over D; a level L coefficient c counts as c/64^L watt": of the two
--- functions
--- one's coefficient is at most the reading n/D, and the other's at least.
+-- functions one's coefficient is at most the reading n/D, and the other's at least.
 pub record Bracketed (W H : ℕ) (t : List ℕ) (cs : List ℤ) (u v : ℕ) (n : ℤ) : Type 0 where
   pub low : Around W H t u v
   pub high : Around W H t u v

@@ -12,17 +12,15 @@ abbrev pub signed : Bool → ℕ → ℤ
 signed true n = negℤ (pos n)
 signed false n = pos n
 
--- The f64 is within 1/b of the fraction n/d: "The bound is stated over whole numbers: the f64 is a whole number times
--- a
--- power of two." The value of `fin s m e` is ±m×2^e, and 2^e is up e / down e. Neither NaN nor an infinity is near.
+-- The f64 is within 1/b of the fraction n/d: "The bound ... is stated over whole numbers: the f64 is a whole number
+-- times a power of two." The value of `fin s m e` is ±m×2^e, and 2^e is up e / down e. Neither NaN nor an infinity is near.
 abbrev pub Near : ℕ → ℕ → ℤ → Float → Type 0
 Near b d n nan = ⊥
 Near b d n (inf s) = ⊥
 Near b d n (fin s m e) = natAbs (signed s (m * up e * d) -ℤ n *ℤ pos (down e)) * b ≤ d * down e
 
 -- "the answer is either watts as an f64 or a refusal number": the f64 reading that goes with an exact outcome has the
--- same
--- refusal, or lies "within 2^-30 watt of it".
+-- same refusal, or lies "within 2^-30 watt of it".
 abbrev pub FloatMeets : Answer ℤ → Answer Float → Type 0
 FloatMeets (refused n) (refused m) = m ≡ n
 FloatMeets (refused n) (gives x) = ⊥

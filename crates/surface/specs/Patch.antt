@@ -21,11 +21,9 @@ subdivided g h p k l =
     sum2 3 3 λ i j. pos (stencil (g + k) i * stencil (h + l) j) *ℤ p ((g + k) / 2 + i) ((h + l) / 2 + j)
 
 -- The patch of level L at (u, v): the sixteen functions of level L that do not vanish on the point's cell. An entry
--- whose
--- cut support lies in the region of its level is its own coefficient, any other is subdivided from the coarser patch.
--- (EVAL_THB overwrites active entries alone. An entry whose support lies in a finer region is passive: here it
--- becomes 0,
--- there it keeps the subdivided value, and in both all that is subdivided from it is overwritten later.)
+-- whose cut support lies in the region of its level is its own coefficient, any other is subdivided from the coarser
+-- patch. (EVAL_THB overwrites active entries alone. An entry whose support lies in a finer region is passive: here it
+-- becomes 0, there it keeps the subdivided value, and in both all that is subdivided from it is overwritten later.)
 unfoldable pub patch : ℕ → ℕ → (ℕ → ℕ → ℕ) → (ℕ → ℕ → ℕ → ℤ) → ℕ → ℕ → ℕ → ℕ → ℕ → ℤ
 patch W H lev coef u v zero k l = coef 0 (cellOf W 0 u + k) (cellOf H 0 v + l)
 patch W H lev coef u v (suc L) k l =

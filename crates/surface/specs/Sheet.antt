@@ -24,7 +24,7 @@ eighths L = 2 ^ (3 - L)
 abbrev pub steps : ℕ → ℕ
 steps L = 16 * eighths L
 
--- "A point is (u, v), 0 to 128×W and 0 to 128×H, far edges included."
+-- "A point is (u, v) ... 0 to 128×W and 0 to 128×H, far edges included."
 abbrev pub onSheet : ℕ → ℕ → ℕ → ℕ → Bool
 onSheet W H u v = leb u (128 * W) && leb v (128 * H)
 

@@ -1,6 +1,5 @@
 -- Document 01, "Functions and coefficients" and "Calls and what they decline": the places of the coefficients in the
--- lent
--- slice, and when a table (a sheet, a tree and a coefficient slice) is acceptable.
+-- lent slice, and when a table (a sheet, a tree and a coefficient slice) is acceptable.
 use mathlib.Core.Path.{_≡_}
 use mathlib.Core.Bool.{Bool, true, false, not, _&&_, _||_}
 use mathlib.Core.List.{List, [], _∷_, _++_}

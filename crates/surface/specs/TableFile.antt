@@ -1,6 +1,5 @@
 -- Document 01, "The table file": what loading a file gives, judged in byte order: "whole head, tag, length, whole
--- body,
--- contents; after the last field 15, 16, 17".
+-- body, contents; after the last field 15, 16, 17".
 use mathlib.Core.Bool.{Bool, true, false, not, _&&_, cond}
 use mathlib.Core.List.{List, [], _∷_, _++_}
 use Prim.Native.Nat.{ℕ, zero, suc, _+_, _-_, _*_, _^_}
@@ -28,8 +27,8 @@ fieldOr (suc n) b rest = faulty (suc n)
 abbrev pub lengthAt : List ℕ → ℕ
 lengthAt s = 256 * getD s 1 0 + getD s 2 0
 
--- "Fields of a one-byte tag, a two-byte length and a body": the field of the due tag, whose length passes the test.
--- 12 is "file ends inside a head or body", 13 "other tag than the one due", 14 "field length wrong".
+-- "Fields of a one-byte tag, a two-byte length ... and a body": the field of the due tag, whose length passes the
+-- test. 12 is "file ends inside a head or body", 13 "other tag than the one due", 14 "field length wrong".
 unfoldable pub field : ℕ → (ℕ → Bool) → List ℕ → Field
 field tag fits s =
     let n = lengthAt s in
@@ -67,7 +66,7 @@ unfoldable pub activeBefore : ℕ → ℕ → (ℕ → ℕ → ℕ) → ℕ → 
 activeBefore W H lev L a b =
     total b (λ r. activeInRow W H lev L r) + count a (λ c. active W H lev L c b)
 
--- "the active coefficients in slice order": function (a, b) takes the next number of its level's body when active.
+-- "the active coefficients ... in slice order": function (a, b) takes the next number of its level's body when active.
 abbrev pub loaded : ℕ → ℕ → (ℕ → ℕ → ℕ) → ℕ → List ℕ → ℕ → ℕ → ℤ
 loaded W H lev L b a c = cond (active W H lev L a c) (numberAt b (activeBefore W H lev L a c)) (pos 0)
 

@@ -1,6 +1,5 @@
--- Document 01, "Functions and coefficients": the two-scale relation, truncated functions, and the exact reading.
--- A level L function's value at a point is a numerator over 36×(steps L)⁶. One level up that is 64 times less, which
--- is
+-- Document 01, "Functions and coefficients": the two-scale relation, truncated functions, and the exact reading. A
+-- level L function's value at a point is a numerator over 36×(steps L)⁶. One level up that is 64 times less, which is
 -- the "over 8, in each direction" of the weights, so the relation holds of the numerators with the bare weights.
 use mathlib.Core.Bool.{Bool, cond}
 use mathlib.Core.List.{List, [], _∷_}
@@ -14,8 +13,8 @@ use Rattle.surface.specs.Support.{active, inRegion}
 use Rattle.surface.specs.Spline.{splineAt}
 
 -- "Function (i) of level L is the sum of functions 2i to 2i+4 of level L+1 with weights 1, 4, 6, 4, 1 over 8": the
--- weight
--- of the child with index c in the parent with index a, over 8. (i = a − 3, so the k-th child has c + 3 = 2a + k.)
+-- weight of the child with index c in the parent with index a, over 8. (i = a − 3, so the k-th child has c + 3 = 2a +
+-- k.)
 unfoldable pub weight : ℕ → ℕ → ℕ
 weight a c = cond (leb (2 * a) (c + 3)) (getD (1 ∷ 4 ∷ 6 ∷ 4 ∷ 1 ∷ []) (c + 3 - 2 * a) 0) 0
 
@@ -24,10 +23,8 @@ abbrev pub weight2 : ℕ → ℕ → ℕ → ℕ → ℤ
 weight2 a b c d = pos (weight a c * weight b d)
 
 -- The truncated function (a, b) of level L at (u, v), with n levels finer than L. "Truncation drops those terms whose
--- cut
--- support lies in the region of level L+1, and is repeated for every finer level." "Terms that vanish on the sheet
--- drop
--- out": the sum is over the functions of level L+1.
+-- cut support lies in the region of level L+1, and is repeated for every finer level." "Terms that vanish on the sheet
+-- drop out": the sum is over the functions of level L+1.
 unfoldable pub truncated : ℕ → ℕ → (ℕ → ℕ → ℕ) → ℕ → ℕ → ℕ → ℕ → ℕ → ℕ → ℤ
 truncated W H lev u v zero L a b = pos (splineAt W L a u * splineAt H L b v)
 truncated W H lev u v (suc n) L a b =

@@ -4,8 +4,8 @@ use mathlib.Core.Bool.{Bool, true, not, Bool·not-not, _&&_, and-false}
 use mathlib.Core.List.{List}
 use Prim.Native.Nat.{ℕ, zero, suc, _+_, _*_, _/_, _%_, _≤_, _<_}
 use native.Mathlib.Omega.{arith}
-use borrow.Author.Tests.{lt-ltb, le-ltb, le-leb, lt-leb}
-use lib.Dec.{eqb}
+use borrow.Author.Tests.{ltb-true, leb-true, lt-ltb, le-ltb, le-leb, lt-leb}
+use lib.Dec.{leb, ltb, eqb}
 use lib.IntN.{ℤ}
 use lib.ListN.{length}
 use Rattle.finite.specs.Range.{every}
@@ -19,6 +19,7 @@ use Rattle.surface.specs.Calls.{boxCause}
 use Rattle.surface.proofs.Least.{both, leastUnder-cong}
 use Rattle.surface.proofs.TableLaws.{orElse-none, cause-none, good-side}
 use Rattle.quadtree.specs.Paint.{levelMap}
+use Rattle.quadtree.specs.Visit.{InSheet}
 use Rattle.activity.specs.Minima.{levelsOf}
 use Rattle.table.specs.Faults.{Test, limits, zeros, holdsAt, holdsOn}
 
@@ -76,7 +77,7 @@ module _ (W H : ℕ) (t : List ℕ) (cs : List ℤ) where
 
 -- ---- the map of levels in place of the tree
 
-map-level : (t : List ℕ) (q r : ℕ) → q < 32 → r < 32 → levelsOf (levelMap t) q r ≡ levels t q r
+pub map-level : (t : List ℕ) (q r : ℕ) → q < 32 → r < 32 → levelsOf (levelMap t) q r ≡ levels t q r
 unfolding levelMap
 map-level t q r hq hr =
     getD-table 0 1024 (λ p. levels t (p % 32) (p / 32)) (r * 32 + q) 0 (omega arith)
@@ -140,3 +141,19 @@ module _ (W H : ℕ) (b : Box) where
         le-leb (b .u1) (quarters W) w,
         le-leb (b .v1) (quarters H) h,
       )
+
+-- a box of no cause 7 has area and lies in the sheet
+pub box-none : (W H : ℕ) (b : Box) → 0 ≡ boxCause W H b → InSheet W H b
+box-none W H b e =
+    let wide = ltb (b .u0) (b .u1) in
+    let high = ltb (b .v0) (b .v1) in
+    let right = leb (b .u1) (quarters W) in
+    let top = leb (b .v1) (quarters H) in
+    let all = both (wide && high) (right && top) (cause-none 6 (wide && high && (right && top)) (sym e)) in
+    let area = both wide high (all .0) in
+    let ends = both right top (all .1) in (
+      ltb-true (b .u0) (b .u1) (area .0),
+      ltb-true (b .v0) (b .v1) (area .1),
+      leb-true (b .u1) (quarters W) (ends .0),
+      leb-true (b .v1) (quarters H) (ends .1),
+    )

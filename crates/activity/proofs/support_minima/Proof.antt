@@ -1,9 +1,10 @@
 -- `support_minima` meets its contract: before each turn the least of the rows low .. r is found.
 use mathlib.Core.Path.{_≡_, refl, sym, ap, ap₂, _∙_}
-use Prim.Native.Nat.{ℕ, _≤_, _<_, _+_, _-_, _*_, min, max}
+use Prim.Native.Nat.{ℕ, _≤_, _<_, _+_, _-_, _*_, _/_, min, max}
 use native.Mathlib.Omega.{arith}
 use borrow.Author.Needs.{needs}
 use lib.ListN.{length, getD, getD-replicate}
+use Rattle.surface.specs.Support.{lowEnd, highEnd}
 use Rattle.activity.specs.Minima.{leastFrom}
 use Rattle.activity.proofs.MinimaLaws.{functions-le, window-fits, support-least}
 use Rattle.activity.proofs.MinimaLaws.{from-none, from-more, from-done}
@@ -71,17 +72,22 @@ returns c =
     let start = at-loop .before .before in
     let args = start .args in
     let inv = at-loop .loop .inv in
-    let low = window .result .low in
-    let high = window .result .high in
+    let minima = args .minima .now in
+    let rows : (i : ℕ) → i < 80
+    → getD (at-loop .loop .least) i 0
+    ≡ leastFrom (lowEnd (args .level) (args .b) / 2) ((highEnd (args .h) (args .level) (args .b) + 1) / 2)
+    (λ k. getD minima (k * 80 + i) 0) =
+    λ i l.
+    let column : ℕ → ℕ = λ k. getD minima (k * 80 + i) 0 in
+    inv .3 i l
+    ∙ from-done (window .result .low) (window .result .high) (at-loop .loop .r) column (c .loop-test .left) (inv .1)
+    ∙ ap₂ (λ low high. leastFrom low high column) (window .ensures .0) (window .ensures .1) in
     record {
       size = inv .2;
-      least = λ W map _ hW rows a ha.
-          let small : a < 80 = omega (arith, functions-le W (args .level) hW (start .pre .1)) in
-          let column : ℕ → ℕ = λ k. getD (args .minima .now) (k * 80 + a) 0 in
-          inv .3 a small
-          ∙ from-done low high (at-loop .loop .r) column (c .loop-test .left) (inv .1)
-          ∙ ap₂ (λ low high. leastFrom low high column) (window .ensures .0) (window .ensures .1)
-          ∙ support-least W (args .h) (args .level) a (args .b) map (args .minima .now) rows ha;
+      rows = rows;
+      least = λ W map _ hW sheet a ha.
+          rows a (omega (arith, functions-le W (args .level) hW (start .pre .1)))
+          ∙ support-least W (args .h) (args .level) a (args .b) map minima sheet ha;
     }
 
 pub support-minima-spec : {M : Type 1} → statement M

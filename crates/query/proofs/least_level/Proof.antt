@@ -4,8 +4,8 @@ use borrow.Author.Needs.{needs}
 use Rattle.surface.specs.Sheet.{Box}
 use Rattle.surface.specs.Table.{regionCause}
 use Rattle.surface.specs.Calls.{boxCause}
-use Rattle.table.proofs.CauseLaws.{region-none}
-use Rattle.query.proofs.QueryLaws.{least-region, least-box, least-found, box-none}
+use Rattle.table.proofs.CauseLaws.{region-none, box-none}
+use Rattle.query.proofs.QueryLaws.{least-region, least-box, least-found}
 use Rattle.query.proofs.least_level.Statement.{statement}
 use Rattle.query.proofs.least_level.Tie as tie
 

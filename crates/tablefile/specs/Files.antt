@@ -1,0 +1,41 @@
+-- Document 01, "The table file": what an accepted file loads is an acceptable table, and one table has at most one
+-- file; input longer than any file is judged by its front. Proved in proofs/Theorems.antt.
+use mathlib.Core.Path.{_≡_}
+use mathlib.Core.List.{List}
+use Prim.Native.Nat.{ℕ, _≤_, _<_}
+use lib.IntN.{ℤ}
+use lib.ListN.{length, getD, take}
+use Rattle.surface.specs.Table.{Acceptable}
+use Rattle.surface.specs.Calls.{gives}
+use Rattle.surface.specs.TableFile.{Loaded, contains, fileContents, FileResult, fileOutcome}
+
+-- Each number of the list is a byte.
+abbrev pub Bytes : List ℕ → Type 0
+Bytes s = (i : ℕ) → i < length s → getD s i 0 < 256
+
+-- What an accepted file loads is an acceptable table: none of 1 to 5 applies to it.
+abbrev pub AcceptedIsAcceptable : Type 0
+AcceptedIsAcceptable =
+    (file : List ℕ) (f : Loaded) → fileContents file ≡ contains f
+    → Acceptable (f .W) (f .H) (f .tree) (f .numbers)
+
+-- The same of the call: the tree output up to the returned length and the numbers output are an acceptable table.
+abbrev pub LoadsAcceptable : Type 0
+LoadsAcceptable =
+    (file treeOut : List ℕ) (numbersOut : List ℤ) (r : FileResult)
+    → fileOutcome file treeOut numbersOut .result ≡ gives r
+    → Acceptable (r .W) (r .H) (take (r .treeLength) (fileOutcome file treeOut numbersOut .tree))
+    (fileOutcome file treeOut numbersOut .numbers)
+
+-- Two accepted files that load the same sheet, tree and coefficient slice are the same bytes.
+abbrev pub OneFileEach : Type 0
+OneFileEach =
+    (s t : List ℕ) → Bytes s → Bytes t
+    → (f : Loaded) → fileContents s ≡ contains f → fileContents t ≡ contains f → s ≡ t
+
+-- Input of any length is judged by its first 65,536 bytes, more than any file has: a program that holds these, or
+-- more of its input, gets the whole input's refusal, result and outputs.
+abbrev pub LongInput : Type 0
+LongInput =
+    (s : List ℕ) (n : ℕ) → 65536 ≤ n → (treeOut : List ℕ) (numbersOut : List ℤ)
+    → fileOutcome (take n s) treeOut numbersOut ≡ fileOutcome s treeOut numbersOut

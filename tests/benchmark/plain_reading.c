@@ -1,0 +1,131 @@
+/* Readings in plain C: exact over D, as f64, whole watts, cost. */
+#include "plain_inside.h"
+
+/* Sixteen coefficients: entry [k][l] is that of the k-th function along u and the l-th along v. */
+typedef struct {
+  int64_t at[4][4];
+} patch;
+
+/* The cell of a level that holds a point; at the far edge the last one. */
+static size_t cell_of(size_t n, size_t level, size_t u) {
+  size_t cell = u / (128 >> level), last = (n << level) - 1;
+  return cell < last ? cell : last;
+}
+
+/* The least levels under the functions (a, b) to (a + 3, b + 3): along u in the rows that matter, then along v. */
+static void near_least(level_map map, size_t w, size_t h, size_t level, size_t a, size_t b, uint8_t least[4][4]) {
+  uint8_t columns[4][QUARTERS];
+  size_t from = window_of(h, level, b).low, to = window_of(h, level, b + 3).high;
+  for (size_t k = 0; k < 4; k++) {
+    struct window across = window_of(w, level, a + k);
+    for (size_t r = from; r < to; r++) columns[k][r] = least_in(map[r], across);
+  }
+  for (size_t k = 0; k < 4; k++)
+    for (size_t l = 0; l < 4; l++) least[k][l] = least_in(columns[k], window_of(h, level, b + l));
+}
+
+/* A patch's own coefficients, read off its level's part of the slice. */
+static patch own(const int64_t *part, size_t n, size_t a, size_t b) {
+  patch p;
+  for (size_t k = 0; k < 4; k++)
+    for (size_t l = 0; l < 4; l++) p.at[k][l] = part[(b + l) * n + a + k];
+  return p;
+}
+
+/* The children in one half along the first direction, with the directions exchanged. */
+static patch along(patch p, size_t half) {
+  patch next;
+  for (size_t l = 0; l < 4; l++) {
+    int64_t a = p.at[0][l], b = p.at[1][l], c = p.at[2][l], d = p.at[3][l];
+    int64_t five[5] = {4 * (a + b), a + 6 * b + c, 4 * (b + c), b + 6 * c + d, 4 * (c + d)};
+    for (size_t k = 0; k < 4; k++) next.at[l][k] = five[half + k];
+  }
+  return next;
+}
+
+/* The patch of a level from the one above: own coefficients where the support lies in the level's region. */
+static patch finer(patch coarse, const int64_t *numbers, level_map map, size_t w, size_t h, size_t level, size_t u,
+                   size_t v) {
+  uint8_t least[4][4];
+  size_t a = cell_of(w, level, u), b = cell_of(h, level, v);
+  patch mine = own(numbers + start(w, h, level), functions(w, level), a, b);
+  patch next = along(along(coarse, a % 2), b % 2);
+  near_least(map, w, h, level, a, b, least);
+  for (size_t k = 0; k < 4; k++)
+    for (size_t l = 0; l < 4; l++)
+      if (least[k][l] >= level) next.at[k][l] = mine.at[k][l];
+  return next;
+}
+
+/* The four splines at r steps into a cell of 16, as whole numbers that add up to 24,576. */
+static void splines_at(int64_t r, int64_t spline[4]) {
+  int64_t q = 16 - r, a = q * q * q, x = r * r * q, y = r * q * q, d = r * r * r;
+  spline[0] = a;
+  spline[1] = d + 6 * x + 12 * y + 4 * a;
+  spline[2] = 4 * d + 12 * x + 6 * y + a;
+  spline[3] = d;
+}
+
+static int64_t evaluate(patch p, size_t r, size_t s) {
+  int64_t across[4], along_v[4], sum = 0;
+  splines_at((int64_t)r, across);
+  splines_at((int64_t)s, along_v);
+  for (size_t k = 0; k < 4; k++) {
+    int64_t row = 0;
+    for (size_t l = 0; l < 4; l++) row += along_v[l] * p.at[k][l];
+    sum += across[k] * row;
+  }
+  return sum;
+}
+
+/* The exact reading over D = 36 × 2^42 after causes 1 to 6. */
+static uint8_t read_point(size_t w, size_t h, const uint8_t *tree, size_t tree_len, const int64_t *numbers,
+                          size_t numbers_len, size_t u, size_t v, int64_t *numerator) {
+  level_map map;
+  uint8_t cause = check(w, h, tree, tree_len, numbers, numbers_len, map);
+  if (cause) return cause;
+  if (u > 128 * w || v > 128 * h) return OFF_SHEET;
+  patch p = own(numbers, functions(w, 0), cell_of(w, 0, u), cell_of(h, 0, v));
+  for (size_t level = 1; level < LEVELS; level++) p = finer(p, numbers, map, w, h, level, u, v);
+  *numerator = evaluate(p, u - 16 * cell_of(w, 3, u), v - 16 * cell_of(h, 3, v));
+  return 0;
+}
+
+uint8_t plain_exact(size_t w, size_t h, const uint8_t *tree, size_t tree_len, const int64_t *numbers,
+                    size_t numbers_len, size_t u, size_t v, int64_t *numerator) {
+  return read_point(w, h, tree, tree_len, numbers, numbers_len, u, v, numerator);
+}
+
+static const int64_t D = (int64_t)36 << 42;
+
+uint8_t plain_watts(size_t w, size_t h, const uint8_t *tree, size_t tree_len, const int64_t *numbers,
+                    size_t numbers_len, size_t u, size_t v, double *watts) {
+  int64_t n;
+  uint8_t cause = read_point(w, h, tree, tree_len, numbers, numbers_len, u, v, &n);
+  if (!cause) *watts = (double)n / (double)D;
+  return cause;
+}
+
+/* To the nearest whole number, halves upward, also below zero: n rounds to minus what -1 - n rounds to. */
+static int64_t whole_watts(int64_t n) {
+  return n < 0 ? -((-1 - n + D / 2) / D) : (n + D / 2) / D;
+}
+
+uint8_t plain_display(size_t w, size_t h, const uint8_t *tree, size_t tree_len, const int64_t *numbers,
+                      size_t numbers_len, size_t u, size_t v, int64_t *watts) {
+  int64_t n;
+  uint8_t cause = read_point(w, h, tree, tree_len, numbers, numbers_len, u, v, &n);
+  if (!cause) *watts = whole_watts(n);
+  return cause;
+}
+
+uint8_t plain_cost(size_t w, size_t h, const uint8_t *tree, size_t tree_len, const int64_t *numbers,
+                   size_t numbers_len, size_t u, size_t v, size_t tariff, size_t *cost) {
+  int64_t n;
+  uint8_t cause = read_point(w, h, tree, tree_len, numbers, numbers_len, u, v, &n);
+  if (cause) return cause;
+  if (tariff > 99999) return BAD_TARIFF;
+  int64_t watts = whole_watts(n);
+  *cost = watts <= 0 ? 0 : (2 * ((size_t)watts * tariff) + 1000) / 2000;
+  return 0;
+}

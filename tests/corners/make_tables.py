@@ -1,0 +1,70 @@
+"""Writes the sample tables in tables/ with the evaluator.
+
+Run as: python3 tests/corners/make_tables.py
+"""
+from __future__ import annotations
+
+import sys
+from pathlib import Path
+from typing import Callable, Dict, List, Tuple
+
+sys.dont_write_bytecode = True
+ROOT = Path(__file__).resolve().parents[2]
+sys.path.insert(0, str(ROOT / "tests/evaluator"))
+
+import calls
+import tablefile
+import tree as quadtree
+from surface import LEVELS, Box
+
+Watts = Callable[[float, float], float]
+FLAT = tuple((0,) * 32 for _ in range(32))
+
+
+def table(w: int, h: int, boxes: List[Tuple[Box, int]], watts: Watts) -> bytes:
+    """The file of a table refined in the boxes, whose coefficients are the watts in the middle of each support."""
+    levels = FLAT
+    for box, level in boxes:
+        levels = quadtree.raised(levels, box, level)
+    tree = quadtree.tree_of(levels)
+    surface = calls.surface_of(w, h, tree)
+    coefficients = [
+        round(watts((i + 2) / 2**level, (j + 2) / 2**level)) * 64**level if surface.active(level, i, j) else 0
+        for level in LEVELS
+        for i, j in surface.functions(level)
+    ]
+    return tablefile.write_file(w, h, tree, coefficients)
+
+
+def kiln(u: float, v: float) -> float:
+    """Draw of a kiln: losses that rise with temperature, heat for the climb, and a bend near top heat."""
+    heat = max(u, 0.0) / 8
+    losses = 350 + 5_200 * heat**3
+    climb = 900 * max(v, 0.0) * (1 - 0.4 * heat)
+    bend = -2_600 * max(0.0, u - 6.75) ** 2
+    return min(max(losses + climb + bend, 0.0), 11_000.0)
+
+
+def bench(u: float, v: float) -> float:
+    """The sheet S of document 01: columns of -1,000, 0, 1,000 and 2,000 watts."""
+    return 1_000 * u
+
+
+TABLES: Dict[str, bytes] = {
+    "bench-s": table(1, 1, [], bench),
+    "bench-s-level-1": table(1, 1, [((0, 0, 4, 4), 1)], bench),
+    "kiln-unrefined": table(8, 4, [], kiln),
+    "kiln-refined-near-top-heat": table(
+        8, 4, [((20, 0, 32, 16), 1), ((25, 0, 32, 16), 2), ((26, 4, 30, 12), 3)], kiln),
+}
+
+
+def main() -> int:
+    for name, file in TABLES.items():
+        (ROOT / "tables" / f"{name}.table").write_bytes(file)
+    print(f"tables: {len(TABLES)} written")
+    return 0
+
+
+if __name__ == "__main__":
+    sys.exit(main())
