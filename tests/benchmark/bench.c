@@ -1,21 +1,22 @@
-/* Makes each call once on a table given on standard input: of the library (PREFIX kiln_) or of plain C (plain_). Run
-   as `bench count` under callgrind it leaves one dump for each call, named like it; run as `bench stack` it prints the
-   bytes of stack of each call. */
+/* Makes each call once on a table and its file, given on standard input: of the library (PREFIX kiln_) or of plain C
+   (plain_). Run as `bench count` under callgrind it leaves one dump for each call, named like it; run as `bench stack`
+   it prints the bytes of stack of each call. With a call's name after that it makes that call only. */
 #include "plain.h"
 
 #include <pthread.h>
+#include <stdbool.h>
 #include <stdio.h>
 #include <stdlib.h>
 #include <string.h>
 #include <valgrind/callgrind.h>
 
-static size_t w, h, tree_len, numbers_len;
-static uint8_t tree[1365], out[4489], tree_out[1365];
+static size_t w, h, tree_len, numbers_len, file_len;
+static uint8_t tree[1365], out[4489], tree_out[1365], file[32365];
 static int64_t numbers[6196], numbers_out[6196];
 
 /* What the calls give beside a refusal number. */
 static uint8_t level;
-static size_t amount;
+static size_t amount, wide, high;
 
 static unsigned nothing(void) {
   return 0;
@@ -66,6 +67,10 @@ static unsigned cost(void) {
   return CALL(cost)(w, h, tree, tree_len, numbers, numbers_len, 64 * w + 5, 64 * h + 7, 1500, &amount);
 }
 
+static unsigned read_file(void) {
+  return CALL(read_file)(file, file_len, tree_out, sizeof tree_out, numbers_out, numbers_len, &amount, &wide, &high);
+}
+
 struct call {
   const char *name;
   unsigned (*make)(void);
@@ -75,6 +80,7 @@ static const struct call calls[] = {
   {"nothing", nothing}, {"table_check", table_check}, {"least_level", least_level}, {"activity", activity},
   {"fresh", fresh}, {"set", set},
   {"insert", insert}, {"exact", exact}, {"watts", watts}, {"display", display}, {"cost", cost},
+  {"read_file", read_file},
 };
 
 enum { CALLS = sizeof calls / sizeof *calls, DEPTH = 1 << 17, UNUSED = 0xA5 };
@@ -108,23 +114,46 @@ static size_t depth(const struct call *call) {
   return job.depth;
 }
 
-int main(int argc, char **argv) {
-  if (argc != 2 || scanf("%zu %zu %zu", &w, &h, &tree_len) != 3 || tree_len > sizeof tree) return 2;
-  for (size_t i = 0; i < tree_len; i++)
-    if (scanf("%hhu", &tree[i]) != 1) return 2;
-  if (scanf("%zu", &numbers_len) != 1 || numbers_len > sizeof numbers / sizeof *numbers) return 2;
+/* Makes one call between two marks of callgrind; one piece of code for all calls, so that it costs the same. */
+__attribute__((noipa)) static void count(const struct call *call) {
+  CALLGRIND_ZERO_STATS;
+  call->make();
+  CALLGRIND_DUMP_STATS_AT(call->name);
+}
+
+/* Whether a call is to be made: each where none is named. */
+static bool asked(const struct call *call, const char *name) {
+  return !name || call->make == nothing || !strcmp(call->name, name);
+}
+
+/* Reads so many bytes, written as numbers. */
+static bool get_bytes(uint8_t *to, size_t n) {
+  for (size_t i = 0; i < n; i++)
+    if (scanf("%hhu", &to[i]) != 1) return false;
+  return true;
+}
+
+/* Reads the table and its file. */
+static bool get_input(void) {
+  if (scanf("%zu %zu %zu", &w, &h, &tree_len) != 3 || tree_len > sizeof tree) return false;
+  if (!get_bytes(tree, tree_len)) return false;
+  if (scanf("%zu", &numbers_len) != 1 || numbers_len > sizeof numbers / sizeof *numbers) return false;
   for (size_t i = 0; i < numbers_len; i++)
-    if (scanf("%ld", &numbers[i]) != 1) return 2;
+    if (scanf("%ld", &numbers[i]) != 1) return false;
+  return scanf("%zu", &file_len) == 1 && file_len <= sizeof file && get_bytes(file, file_len);
+}
+
+int main(int argc, char **argv) {
+  const char *name = argc == 3 ? argv[2] : NULL;
+  if (argc < 2 || argc > 3 || !get_input()) return 2;
   /* No call may refuse; made once beforehand, none pays for being the first. */
   for (int k = 0; k < CALLS; k++)
-    if (calls[k].make()) return 1;
+    if (asked(&calls[k], name) && calls[k].make()) return 1;
   if (!strcmp(argv[1], "stack"))
-    for (int k = 0; k < CALLS; k++) printf("%s %zu\n", calls[k].name, depth(&calls[k]));
+    for (int k = 0; k < CALLS; k++)
+      if (asked(&calls[k], name)) printf("%s %zu\n", calls[k].name, depth(&calls[k]));
   if (!strcmp(argv[1], "count"))
-    for (int k = 0; k < CALLS; k++) {
-      CALLGRIND_ZERO_STATS;
-      calls[k].make();
-      CALLGRIND_DUMP_STATS_AT(calls[k].name);
-    }
+    for (int k = 0; k < CALLS; k++)
+      if (asked(&calls[k], name)) count(&calls[k]);
   return 0;
 }

@@ -10,7 +10,7 @@
 /* Refusal numbers of document 01. */
 enum {
   BAD_SIDE = 1, BAD_TREE, BAD_LENGTH, OVER_LIMIT, PASSIVE_NOT_0, OFF_SHEET, BAD_BOX, BAD_LEVEL, NOT_ACTIVE, BAD_NUMBER,
-  BAD_TARIFF, BAD_OUTPUT = 16, TREE_OUTPUT_SHORT
+  BAD_TARIFF, FILE_ENDS, BAD_TAG, BAD_FIELD, BYTES_AFTER, BAD_OUTPUT, TREE_OUTPUT_SHORT
 };
 
 /* The tree covers 32 by 32 quarters; a level has at most 67 functions along a side, kept in rows of 80. */
@@ -60,6 +60,16 @@ static inline uint8_t least_in(const uint8_t *row, struct window at) {
   return least;
 }
 
+static inline bool good_sides(size_t w, size_t h) {
+  return w >= 1 && w <= 8 && h >= 1 && h <= 8;
+}
+
+/* Past 32,000 watts in the level's unit of 1/64^level watt. */
+static inline bool past_limit(int64_t number, size_t level) {
+  int64_t limit = (int64_t)32000 << (6 * level);
+  return number > limit || number < -limit;
+}
+
 /* Cause 7: a box with no area, or past the sheet. */
 static inline bool bad_box(size_t w, size_t h, const struct box *box) {
   return box->u1 <= box->u0 || box->v1 <= box->v0 || box->u1 > 4 * w || box->v1 > 4 * h;
@@ -70,6 +80,9 @@ void row_minima(level_map map, size_t w, size_t level, minima_rows minima);
 
 /* The least levels under the supports of the functions (0, b), (1, b), ... of the level. */
 void support_minima(minima_rows minima, size_t h, size_t level, size_t b, uint8_t least[ROW]);
+
+/* Causes 1 and 2, with the map of levels where none applies. */
+uint8_t regions(size_t w, size_t h, const uint8_t *tree, size_t len, level_map map);
 
 /* Causes 1 to 5, with the map of levels where none applies. */
 uint8_t check(size_t w, size_t h, const uint8_t *tree, size_t tree_len, const int64_t *numbers, size_t numbers_len,

@@ -1,12 +1,6 @@
 /* Tables in plain C: the check of a table, least level, activity, a fresh table, one coefficient set. */
 #include "plain_inside.h"
 
-/* 32,000 watts in the level's unit of 1/64^level watt. */
-static bool past_limit(int64_t number, size_t level) {
-  int64_t limit = (int64_t)32000 << (6 * level);
-  return number > limit || number < -limit;
-}
-
 /* Where the tree written from `at` on ends, of the square of this side at (x, y); 0 where it is not of the form. */
 static size_t tree_end(const uint8_t *tree, size_t len, size_t at, size_t x, size_t y, size_t side, size_t w,
                        size_t h) {
@@ -24,10 +18,6 @@ static size_t tree_end(const uint8_t *tree, size_t len, size_t at, size_t x, siz
   const uint8_t *child = tree + at + 1;
   if (end == at + 5 && child[0] == child[1] && child[0] == child[2] && child[0] == child[3]) return 0;
   return end;
-}
-
-static bool good_sides(size_t w, size_t h) {
-  return w >= 1 && w <= 8 && h >= 1 && h <= 8;
 }
 
 /* Causes 1 and 2. */
@@ -55,6 +45,12 @@ static size_t paint_from(const uint8_t *tree, size_t at, size_t x, size_t y, siz
   at = paint_from(tree, at, x + half, y, half, map);
   at = paint_from(tree, at, x, y + half, half, map);
   return paint_from(tree, at, x + half, y + half, half, map);
+}
+
+uint8_t regions(size_t w, size_t h, const uint8_t *tree, size_t len, level_map map) {
+  uint8_t cause = region_cause(w, h, tree, len);
+  if (!cause) paint_from(tree, 0, 0, 0, QUARTERS, map);
+  return cause;
 }
 
 /* Each number of a row, or that of another row if it is less. */

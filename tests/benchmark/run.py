@@ -20,18 +20,22 @@ HERE, BUILT = ROOT / "tests/benchmark", ROOT / "target/staticlib"
 sys.path.insert(0, str(ROOT / "tests/evaluator"))
 
 import samples
+import tablefile
+from surface import total_places
 
 READINGS = {"exact": "Exact reading", "watts": "Reading as f64", "display": "Display", "cost": "Cost"}
 CALLS = {"table_check": "Table check", "least_level": "Least level", "activity": "Activity", "fresh": "Fresh table",
-         "set": "Set", "insert": "Insertion", **READINGS}
+         "set": "Set", "insert": "Insertion", **READINGS, "read_file": "File reading"}
 BEYOND = "Exact reading beyond the table check"
 SIZES = (1, 4, 8)
-LARGEST = "8 by 8, fully split"
+CORNERS_BAR = 5
+LARGEST, LARGEST_FILE = "8 by 8, fully split", "8 by 8, all of level 3"
 
-RATIO_BAR, READING_BAR, INSERT_BAR, STACK_BAR = 1.5, 600_000, 2_000_000, 16_384
-READING_AIM, INSERT_AIM, BEYOND_AIM = 300_000, 700_000, 10_000
-# Instructions of one call on the fully split 8 by 8 table.
-BARS = {**dict.fromkeys(("table_check", *READINGS), READING_BAR), "insert": INSERT_BAR}
+RATIO_BAR, READING_BAR, INSERT_BAR, FILE_BAR, STACK_BAR = 1.5, 600_000, 2_000_000, 1_500_000, 16_384
+READING_AIM, INSERT_AIM, FILE_AIM, BEYOND_AIM = 300_000, 700_000, 600_000, 10_000
+# A call, the table that it is held to a number of instructions on, and that number.
+BARS = {**dict.fromkeys(("table_check", *READINGS), (LARGEST, READING_BAR)), "insert": (LARGEST, INSERT_BAR),
+        "read_file": (LARGEST_FILE, FILE_BAR)}
 
 # Callgrind counts each repetition of a rep instruction, so fills and copies are made without: by glibc, and in C.
 NO_REP = {
@@ -60,6 +64,19 @@ def tables() -> List[Tuple[str, samples.Table]]:
     return made
 
 
+def largest_file() -> Tuple[str, samples.Table]:
+    """The table of the file with the most coefficients; only file reading is measured on it."""
+    rng, places, limit = Random(9), (8 * 8 + 3) ** 2, 32_000 * 64**3
+    numbers = [rng.randint(-limit, limit) for _ in range(places)]
+    return LARGEST_FILE, samples.Table(8, 8, [3], [0] * (total_places(8, 8) - places) + numbers)
+
+
+def told(t: samples.Table) -> str:
+    """A table and its file, as the program reads them."""
+    file = tablefile.write_file(*t)
+    return " ".join(map(str, [t.w, t.h, len(t.tree), *t.tree, len(t.coefficients), *t.coefficients, len(file), *file]))
+
+
 def built(name: str, *given: str) -> str:
     subprocess.run(["gcc", *FLAGS, "-o", str(BUILT / name), str(HERE / "bench.c"), *given], check=True)
     return f"./{name}"
@@ -72,11 +89,12 @@ def programs() -> Tuple[str, str]:
     return library, built("bench_plain", *PLAIN)
 
 
-def measure(program: str, text: str) -> Measured:
+def measure(program: str, text: str, *call: str) -> Measured:
+    """The figures of each call, or of one."""
     counts: Figures = {}
     with tempfile.TemporaryDirectory() as room:
         # The names and the environment are the same everywhere: their length moves the stack, and fills with it.
-        command = [which("valgrind"), "--tool=callgrind", f"--callgrind-out-file={room}/dump", program, "count"]
+        command = [which("valgrind"), "--tool=callgrind", f"--callgrind-out-file={room}/dump", program, "count", *call]
         subprocess.run(command, cwd=BUILT, input=text, capture_output=True, text=True, check=True, env=NO_REP)
         for dump in Path(room).iterdir():
             words = dump.read_text()
@@ -86,8 +104,9 @@ def measure(program: str, text: str) -> Measured:
     # What it takes to be counted at all.
     nothing = counts.pop("nothing")
     counts = {name: count - nothing for name, count in counts.items()}
-    counts[BEYOND] = counts["exact"] - counts["table_check"]
-    command = [program, "stack"]
+    if not call:
+        counts[BEYOND] = counts["exact"] - counts["table_check"]
+    command = [program, "stack", *call]
     said = subprocess.run(command, cwd=BUILT, input=text, capture_output=True, text=True, check=True).stdout
     return Measured(counts, {name: int(n) for name, n in (line.split() for line in said.splitlines())})
 
@@ -96,6 +115,7 @@ def paragraphs(library: Dict[str, Measured]) -> List[str]:
     """How the figures are made and what they are held to."""
     gcc = subprocess.run(["gcc", "-dumpfullversion"], check=True, capture_output=True, text=True).stdout.strip()
     exact, insert, beyond = (library[LARGEST].counts[name] for name in ("exact", "insert", BEYOND))
+    loaded = library[LARGEST_FILE].counts["read_file"]
     return [
         "Instructions of one call, counted by valgrind's callgrind on x86-64, so that they repeat: of the library, "
         "and of `tests/benchmark/plain_*.c`, the same checks and the same steps in plain C, built by "
@@ -103,21 +123,28 @@ def paragraphs(library: Dict[str, Measured]) -> List[str]:
         "the evaluator.",
         f"Bars: each call at most {RATIO_BAR} times the C program; a reading of the fully split 8 by 8 table at most "
         f"{READING_BAR:,} instructions (aim {READING_AIM:,}; today {exact:,}), an insertion into it at most "
-        f"{INSERT_BAR:,} (aim {INSERT_AIM:,}; today {insert:,}); stack at most {STACK_BAR:,} bytes a call. "
+        f"{INSERT_BAR:,} (aim {INSERT_AIM:,}; today {insert:,}), reading the largest file at most {FILE_BAR:,} (aim "
+        f"{FILE_AIM:,}; today {loaded:,}); stack at most {STACK_BAR:,} bytes a call. "
         f"Beyond the table check the aim of a reading is under {BEYOND_AIM:,} instructions; today {beyond:,}. "
         "No call allocates.",
         "The least level is asked over the whole sheet, the activity of level 3; one coefficient of level 0 is set; "
-        "the whole sheet is raised to level 3; readings are taken at (64 W + 5, 64 H + 7), the tariff is 1,500. "
+        "the whole sheet is raised to level 3; readings are taken at (64 W + 5, 64 H + 7), the tariff is 1,500; the "
+        "file that is read is the table's, and the largest is that of 8 by 8 with the tree 3, 22,445 bytes of "
+        "coefficients. "
         "Callgrind counts each repetition of a rep instruction, so on both sides memory is filled and copied without.",
     ]
 
 
 def call_table(call: str, title: str, made: List[Tuple[str, samples.Table]], library: Dict[str, Measured],
                plain: Dict[str, Measured]) -> List[str]:
-    lines = ["", f"## {title}", "", "| table | tree bytes | library | C | ratio |", "|---|---|---|---|---|"]
+    bytes_of = "file" if call == "read_file" else "tree"
+    lines = ["", f"## {title}", "", f"| table | {bytes_of} bytes | library | C | ratio |", "|---|---|---|---|---|"]
     for name, t in made:
+        if call not in library[name].counts:
+            continue
         ours, theirs = library[name].counts[call], plain[name].counts[call]
-        lines.append(f"| {name} | {len(t.tree):,} | {ours:,} | {theirs:,} | {ours / theirs:.2f} |")
+        size = len(tablefile.write_file(*t) if call == "read_file" else t.tree)
+        lines.append(f"| {name} | {size:,} | {ours:,} | {theirs:,} | {ours / theirs:.2f} |")
     return lines
 
 
@@ -131,11 +158,27 @@ def page(made: List[Tuple[str, samples.Table]], library: Dict[str, Measured], pl
               "| call | library | C |", "|---|---|---|"]
     for call, title in CALLS.items():
         lines.append(f"| {title} | {greatest(library, call):,} | {greatest(plain, call):,} |")
+    lines += corners(library[LARGEST_FILE].counts["read_file"])
     return "\n".join(lines) + "\n"
 
 
+def corners(loaded: int) -> List[str]:
+    """The corner program on the largest file, from start to end."""
+    name, t = largest_file()
+    subprocess.run(["rt", "check", "corners"], cwd=ROOT, check=True, stdout=subprocess.DEVNULL)
+    with tempfile.TemporaryDirectory() as room:
+        command = [which("valgrind"), "--tool=callgrind", f"--callgrind-out-file={room}/out",
+                   str(ROOT / "target/bin/corners")]
+        file = tablefile.write_file(t.w, t.h, t.tree, t.coefficients)
+        run = subprocess.run(command, input=file, capture_output=True, check=True, env=NO_REP)
+    count = int(re.search(rb"refs:\s+([\d,]+)", run.stderr).group(1).replace(b",", b""))
+    return ["", "## The corner program", "",
+            fill(f"On the file of {name}: {count:,} instructions from start to end, {count / loaded:.2f} times file "
+                 f"reading of it (bar {CORNERS_BAR}).", 116)]
+
+
 def greatest(measured: Dict[str, Measured], call: str) -> int:
-    return max(m.stacks[call] for m in measured.values())
+    return max(m.stacks[call] for m in measured.values() if call in m.stacks)
 
 
 def missed(library: Dict[str, Measured], plain: Dict[str, Measured]) -> List[str]:
@@ -143,24 +186,27 @@ def missed(library: Dict[str, Measured], plain: Dict[str, Measured]) -> List[str
     lines = []
     for name, ours in library.items():
         for call, title in CALLS.items():
+            if call not in ours.counts:
+                continue
             count, theirs = ours.counts[call], plain[name].counts[call]
+            bar_table, bar = BARS.get(call, ("", 0))
             if count > RATIO_BAR * theirs:
                 lines.append(f"{title}, {name}: {count:,} instructions, {count / theirs:.2f} times the C program")
-            if name == LARGEST and call in BARS and count > BARS[call]:
-                lines.append(f"{title}, {name}: {count:,} instructions, above {BARS[call]:,}")
+            if name == bar_table and count > bar:
+                lines.append(f"{title}, {name}: {count:,} instructions, above {bar:,}")
             if ours.stacks[call] > STACK_BAR:
                 lines.append(f"{title}, {name}: {ours.stacks[call]:,} bytes of stack, above {STACK_BAR:,}")
     return lines
 
 
 def main() -> int:
-    made = tables()
+    made = [*tables(), largest_file()]
     library_program, plain_program = programs()
     library: Dict[str, Measured] = {}
     plain: Dict[str, Measured] = {}
     for name, t in made:
-        text = " ".join(map(str, [t.w, t.h, len(t.tree), *t.tree, len(t.coefficients), *t.coefficients]))
-        library[name], plain[name] = measure(library_program, text), measure(plain_program, text)
+        only = ("read_file",) if name == LARGEST_FILE else ()
+        library[name], plain[name] = (measure(p, told(t), *only) for p in (library_program, plain_program))
     (ROOT / "docs/BENCHMARKS.md").write_text(page(made, library, plain), encoding="utf-8")
     lines = missed(library, plain)
     for line in lines:

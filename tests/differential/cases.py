@@ -11,7 +11,7 @@ sys.path.insert(0, str(Path(__file__).resolve().parents[1] / "evaluator"))
 import calls
 import samples
 import tree as quadtree
-from surface import place_count, total_places
+from surface import LEVELS, place_count, total_places
 
 LEAST, GREATEST = -(2**63), 2**63 - 1
 ODD_SIDES = (0, 9, 2**32 + 1, 2**64 - 1)
@@ -119,6 +119,19 @@ def output_length(rng: Random, exact: int) -> int:
     return rng.choice((exact,) * 6 + (exact + 1, max(exact - 1, 0), 0))
 
 
+def setting(rng: Random, t: samples.Table) -> Tuple[int, int, int, int]:
+    """A level, a place and a number to set there: mostly of an active function, else anywhere and beyond."""
+    level = rng.choice((0, 1, 2, 3, 3, 4, 2**50))
+    side, ends = 8 * 2**min(level, 3), (-3, LEAST, GREATEST)
+    i, j = (rng.choice((rng.randint(-4, side), rng.randint(-4, side), *ends)) for _ in range(2))
+    if rng.random() < 0.7 and calls.judge_regions(t.w, t.h, t.tree) is None:
+        surface = calls.surface_of(t.w, t.h, t.tree)
+        level = rng.choice([n for n in LEVELS if surface.active_functions(n)])
+        i, j = rng.choice(surface.active_functions(level))
+    limit = 32_000 * 64**min(level, 3)
+    return level, i, j, rng.choice((0, 5, -limit, limit, limit + 1, -limit - 1, LEAST))
+
+
 def insertion_table(rng: Random, faulty: float) -> samples.Table:
     """A table for insertions, this share of them damaged; mostly small sheets: the evaluator is slow on large ones."""
     sides = range(1, 9) if rng.random() < 0.3 else (1, 1, 2, 3)
@@ -134,7 +147,7 @@ def _tree_after(t: samples.Table, given: Tuple[int, int, int, int], level: int) 
 
 
 def insertion(rng: Random, t: samples.Table) -> samples.Insertion:
-    """An insertion into a table; about one in three is refused for its box, its level or an output."""
+    """An insertion into a table; about two in five are refused for their box, level or an output."""
     inside = samples.random_box(rng, min(t.w, 8) or 1, min(t.h, 8) or 1)
     given = rng.choice((inside, inside, inside, box(rng, t.w, t.h)))
     level = rng.choice((1, 2, 3) * 10 + ODD_LEVELS)
@@ -145,17 +158,25 @@ def insertion(rng: Random, t: samples.Table) -> samples.Insertion:
     return samples.Insertion(given, level, [at % 251 for at in range(tree_length)], list(range(7, 7 + numbers_length)))
 
 
-def grid(rng: Random, stride: int) -> List[samples.Point]:
+def grid(w: int, h: int) -> List[samples.Point]:
+    """Every point of a sheet's grid."""
+    return [(u, v) for v in range(128 * h + 1) for u in range(128 * w + 1)]
+
+
+def _some_of_grid(rng: Random, stride: int) -> List[samples.Point]:
     """Every stride-th point of the grid of a 1 by 1 sheet along u and along v, with the far edges."""
     across, along = ({*range(rng.randrange(stride), 129, stride), 128} for _ in range(2))
     return [(u, v) for v in sorted(along) for u in sorted(across)]
 
 
 def reading_points(rng: Random, w: int, h: int) -> List[samples.Point]:
-    """Where a list of insertions is read before and after it: on 1 by 1 the grid, seldom all of it, else at random."""
+    """Where a list of insertions is read before and after it: on 1 by 1 the grid, seldom all of it, else at random;
+    and at one point beyond the sheet."""
+    w, h = min(w, 8) or 1, min(h, 8) or 1
+    beyond = rng.choice(((128 * w + 1, 0), (0, 128 * h + 1)))
     if (w, h) == (1, 1):
-        return grid(rng, 1 if rng.random() < 0.02 else 8)
-    return samples.random_points(rng, min(w, 8) or 1, min(h, 8) or 1, 100)
+        return (grid(1, 1) if rng.random() < 0.02 else _some_of_grid(rng, 8)) + [beyond]
+    return samples.random_points(rng, w, h, 100) + [beyond]
 
 
 def level_places(t: samples.Table, level: int) -> int:

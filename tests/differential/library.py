@@ -1,14 +1,23 @@
-"""The compiled library through its C boundary, with guard elements around every buffer that is lent for writing."""
+"""The compiled library through its C boundary. All that is lent to a call, scalars too, lies between guard bytes."""
 from __future__ import annotations
 
 import ctypes
+import struct
 import subprocess
+from array import array
 from pathlib import Path
-from typing import List, Sequence, Tuple
+from typing import Dict, List, NamedTuple, Sequence, Tuple
 
 ROOT = Path(__file__).resolve().parents[2]
-GUARD = 8
 MASK = (1 << 64) - 1
+GUARD = 64
+EDGE = b"\x5A" * GUARD
+# What a scalar holds before a call: every byte is set, and no call gives that value.
+LEVEL_BEFORE = 0xEE
+SIZE_BEFORE = 0xE1E2_E3E4_E5E6_E7E8
+NUMBER_BEFORE = SIZE_BEFORE - 2**64
+# Below zero, no number, with a payload, and signalling: arithmetic on it or another "no number" in its place is seen.
+WATTS_BEFORE = 0xFFF2_3456_789A_BCDE
 
 
 def build() -> ctypes.CDLL:
@@ -22,23 +31,51 @@ def build() -> ctypes.CDLL:
 
 
 class Lent:
-    """A buffer lent for writing: its elements between guard elements, which no call may change."""
+    """A slice lent to a call: its elements (array's type code) between guard bytes, which no call may change."""
 
-    def __init__(self, kind, values: Sequence[int]) -> None:
-        self.kind, self.n = kind, len(values)
-        fill = 0x5A if kind is ctypes.c_uint8 else 0x5A5A5A5A5A5A
-        self.fill = fill
-        self.whole = (kind * (self.n + 2 * GUARD))(*([fill] * GUARD + list(values) + [fill] * GUARD))
+    def __init__(self, code: str, values: Sequence[int]) -> None:
+        self.code, self.n = code, len(values)
+        self.before = EDGE + array(code, values).tobytes() + EDGE
+        self.whole = ctypes.create_string_buffer(self.before, len(self.before))
+
+    def passed(self) -> Tuple:
+        return self.pointer(), size(self.n)
 
     def pointer(self) -> ctypes.c_void_p:
-        return ctypes.c_void_p(ctypes.addressof(self.whole) + GUARD * ctypes.sizeof(self.kind))
+        return ctypes.c_void_p(ctypes.addressof(self.whole) + GUARD)
 
     def values(self) -> List[int]:
-        return list(self.whole[GUARD:GUARD + self.n])
+        return array(self.code, self.whole.raw[GUARD:-GUARD]).tolist()
 
     def guarded(self) -> bool:
-        edges = list(self.whole[:GUARD]) + list(self.whole[GUARD + self.n:])
-        return all(x == self.fill for x in edges)
+        now = self.whole.raw
+        return now[:GUARD] == EDGE and now[-GUARD:] == EDGE
+
+    def unchanged(self) -> bool:
+        return self.whole.raw == self.before
+
+
+class Scalar(Lent):
+    """One element that a call gives its answer in; it passes as a pointer alone."""
+
+    def __init__(self, code: str, before: int) -> None:
+        super().__init__(code, [before])
+
+    def passed(self) -> Tuple:
+        return (self.pointer(),)
+
+    def told(self):
+        return self.values()[0]
+
+
+class Float(Scalar):
+    """An f64, kept as its bits."""
+
+    def __init__(self) -> None:
+        super().__init__("Q", WATTS_BEFORE)
+
+    def told(self) -> float:
+        return struct.unpack("=d", struct.pack("=Q", self.values()[0]))[0]
 
 
 def size(x: int) -> ctypes.c_size_t:
@@ -50,93 +87,99 @@ def number(x: int) -> ctypes.c_int64:
 
 
 def octets(values: Sequence[int]) -> Lent:
-    return Lent(ctypes.c_uint8, values)
+    return Lent("B", values)
 
 
 def numbers(values: Sequence[int]) -> Lent:
-    return Lent(ctypes.c_int64, values)
+    return Lent("q", values)
 
 
-def differ(words: str, got, want, *buffers: Tuple[Lent, Sequence[int]]) -> str:
-    """Empty where the answer, the buffers and the guards are as they should be."""
-    if got != want:
-        return f"{words}: answers {got}, should be {want}"
-    for at, (lent, after) in enumerate(buffers):
+class Answer(NamedTuple):
+    """The number that a call returned, 0 where it accepts, and all that was lent to it."""
+
+    cause: int
+    lent: List[Lent]
+
+    def said(self) -> Tuple:
+        """The answer in the evaluator's words."""
+        if self.cause:
+            return ("refused", self.cause)
+        return ("ok", *(one.told() for one in self.lent if isinstance(one, Scalar)))
+
+
+def differ(words: str, got: Answer, want: Tuple, *after: Tuple[Lent, Sequence[int]]) -> str:
+    """Empty where the answer, the guards and all that was lent are as they should be.
+
+    A slice that is not named with its contents after the call must be as it was lent; so must a scalar if refused.
+    """
+    if got.said() != want:
+        return f"{words}: answers {got.said()}, should be {want}"
+    should = {id(lent): list(values) for lent, values in after}
+    for at, lent in enumerate(got.lent):
+        if id(lent) not in should and lent.unchanged():
+            continue
+        what = f"{'scalar' if isinstance(lent, Scalar) else 'slice'} {at} of those lent"
         if not lent.guarded():
-            return f"{words}: wrote beside buffer {at}"
-        if lent.values() != list(after):
-            return f"{words}: buffer {at} is not as it should be"
+            return f"{words}: wrote beside {what}"
+        if id(lent) in should:
+            if lent.values() != should[id(lent)]:
+                return f"{words}: {what} is not as it should be"
+        elif got.cause or not isinstance(lent, Scalar):
+            return f"{words}: {what} was changed"
     return ""
 
 
 class Library:
-    """The calls under their C names, which start with a prefix. A refusal that wrote a value is told apart."""
+    """The calls under their C names, which start with a prefix, and how many were accepted and refused by kind."""
 
     def __init__(self, lib: ctypes.CDLL, prefix: str = "kiln_") -> None:
         self.lib, self.prefix = lib, prefix
+        self.kind = ""
+        self.counts: Dict[str, List[int]] = {}
 
-    def _call(self, name: str, *given) -> int:
+    def _call(self, name: str, *given) -> Answer:
         function = getattr(self.lib, self.prefix + name)
         function.restype = ctypes.c_uint8
-        return function(*given)
+        cause = function(*(x for one in given for x in (one.passed() if isinstance(one, Lent) else (one,))))
+        kind = name if self.kind == name else f"{self.kind}, {name}"
+        self.counts.setdefault(kind, [0, 0])[cause != 0] += 1
+        return Answer(cause, [one for one in given if isinstance(one, Lent)])
 
-    def least_level(self, w: int, h: int, tree: Lent, box: Tuple[int, int, int, int]) -> Tuple:
-        level, visited = ctypes.c_uint8(0xEE), ctypes.c_size_t(0xEEEE)
-        n = self._call("least_level", size(w), size(h), tree.pointer(), size(tree.n), *map(size, box),
-                       ctypes.byref(level), ctypes.byref(visited))
-        if n:
-            return ("refused", n) if (level.value, visited.value) == (0xEE, 0xEEEE) else ("wrote", n)
-        return ("ok", level.value, visited.value)
+    def least_level(self, w: int, h: int, tree: Lent, box: Tuple[int, int, int, int]) -> Answer:
+        return self._call("least_level", size(w), size(h), tree, *map(size, box), Scalar("B", LEVEL_BEFORE),
+                          Scalar("Q", SIZE_BEFORE))
 
-    def activity(self, w: int, h: int, tree: Lent, level: int, out: Lent) -> Tuple:
-        n = self._call("activity", size(w), size(h), tree.pointer(), size(tree.n), size(level), out.pointer(),
-                       size(out.n))
-        return ("refused", n) if n else ("ok",)
+    def activity(self, w: int, h: int, tree: Lent, level: int, out: Lent) -> Answer:
+        return self._call("activity", size(w), size(h), tree, size(level), out)
 
-    def fresh(self, w: int, h: int, value: int, tree_out: Lent, numbers_out: Lent) -> Tuple:
-        length = ctypes.c_size_t(0xEEEE)
-        n = self._call("fresh", size(w), size(h), number(value), tree_out.pointer(), size(tree_out.n),
-                       numbers_out.pointer(), size(numbers_out.n), ctypes.byref(length))
-        if n:
-            return ("refused", n) if length.value == 0xEEEE else ("wrote", n)
-        return ("ok", length.value)
+    def fresh(self, w: int, h: int, value: int, tree_out: Lent, numbers_out: Lent) -> Answer:
+        return self._call("fresh", size(w), size(h), number(value), tree_out, numbers_out, Scalar("Q", SIZE_BEFORE))
 
     def insert(self, w: int, h: int, tree: Lent, values: Lent, box: Tuple[int, int, int, int], level: int,
-               tree_out: Lent, numbers_out: Lent) -> Tuple:
-        length = ctypes.c_size_t(0xEEEE)
-        n = self._call("insert", size(w), size(h), tree.pointer(), size(tree.n), values.pointer(), size(values.n),
-                       *map(size, box), size(level), tree_out.pointer(), size(tree_out.n), numbers_out.pointer(),
-                       size(numbers_out.n), ctypes.byref(length))
-        if n:
-            return ("refused", n) if length.value == 0xEEEE else ("wrote", n)
-        return ("ok", length.value)
+               tree_out: Lent, numbers_out: Lent) -> Answer:
+        return self._call("insert", size(w), size(h), tree, values, *map(size, box), size(level), tree_out,
+                          numbers_out, Scalar("Q", SIZE_BEFORE))
 
     def set_coefficient(self, w: int, h: int, tree: Lent, values: Lent, level: int, i: int, j: int,
-                        value: int) -> Tuple:
-        n = self._call("set", size(w), size(h), tree.pointer(), size(tree.n), values.pointer(), size(values.n),
-                       size(level), number(i), number(j), number(value))
-        return ("refused", n) if n else ("ok",)
+                        value: int) -> Answer:
+        return self._call("set", size(w), size(h), tree, values, size(level), number(i), number(j), number(value))
 
-    def table_cause(self, w: int, h: int, tree: Lent, values: Lent) -> int:
-        return self._call("table_cause", size(w), size(h), tree.pointer(), size(tree.n), values.pointer(),
-                          size(values.n))
+    def table_cause(self, w: int, h: int, tree: Lent, values: Lent) -> Answer:
+        return self._call("table_cause", size(w), size(h), tree, values)
 
-    def _reading(self, name: str, kind, w: int, h: int, tree: Lent, values: Lent, *place: int) -> Tuple:
-        given = kind(0xEEEE)
-        n = self._call(name, size(w), size(h), tree.pointer(), size(tree.n), values.pointer(), size(values.n),
-                       *map(size, place), ctypes.byref(given))
-        if n:
-            return ("refused", n) if given.value == 0xEEEE else ("wrote", n)
-        return ("ok", given.value)
+    def exact(self, w: int, h: int, tree: Lent, values: Lent, u: int, v: int) -> Answer:
+        return self._call("exact", size(w), size(h), tree, values, size(u), size(v), Scalar("q", NUMBER_BEFORE))
 
-    def exact(self, w: int, h: int, tree: Lent, values: Lent, u: int, v: int) -> Tuple:
-        return self._reading("exact", ctypes.c_int64, w, h, tree, values, u, v)
+    def watts(self, w: int, h: int, tree: Lent, values: Lent, u: int, v: int) -> Answer:
+        return self._call("watts", size(w), size(h), tree, values, size(u), size(v), Float())
 
-    def watts(self, w: int, h: int, tree: Lent, values: Lent, u: int, v: int) -> Tuple:
-        return self._reading("watts", ctypes.c_double, w, h, tree, values, u, v)
+    def display(self, w: int, h: int, tree: Lent, values: Lent, u: int, v: int) -> Answer:
+        return self._call("display", size(w), size(h), tree, values, size(u), size(v), Scalar("q", NUMBER_BEFORE))
 
-    def display(self, w: int, h: int, tree: Lent, values: Lent, u: int, v: int) -> Tuple:
-        return self._reading("display", ctypes.c_int64, w, h, tree, values, u, v)
+    def cost(self, w: int, h: int, tree: Lent, values: Lent, u: int, v: int, tariff: int) -> Answer:
+        return self._call("cost", size(w), size(h), tree, values, size(u), size(v), size(tariff),
+                          Scalar("Q", SIZE_BEFORE))
 
-    def cost(self, w: int, h: int, tree: Lent, values: Lent, u: int, v: int, tariff: int) -> Tuple:
-        return self._reading("cost", ctypes.c_size_t, w, h, tree, values, u, v, tariff)
+    def read_file(self, file: Lent, tree_out: Lent, numbers_out: Lent) -> Answer:
+        """The scalars receive the tree's length and the sides."""
+        return self._call("read_file", file, tree_out, numbers_out, *(Scalar("Q", SIZE_BEFORE) for _ in range(3)))

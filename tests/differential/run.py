@@ -1,6 +1,6 @@
-"""Holds the compiled library to the unrelated evaluator: every answer and every element of every lent buffer.
+"""Holds the compiled library to the unrelated evaluator: every answer and every element of all that is lent.
 
-Run as: python3 tests/differential/run.py [CALLS [SEED]]
+Run as: python3 tests/differential/run.py [CALLS [SEED]] [--counts], or with --case NUMBER [--seed SEED]
 """
 from __future__ import annotations
 
@@ -8,37 +8,42 @@ import sys
 
 sys.dont_write_bytecode = True
 
+from argparse import ArgumentParser, Namespace
 from functools import partial
+from pathlib import Path
 from random import Random
 from typing import Callable, Dict, List
 
 import cases
+import files
+import fixed
 import insertions
 from cases import calls
-from library import Lent, Library, build, differ, numbers, octets
+from library import ROOT, Library, build, differ, numbers, octets
 
 SEED = 20_261_115
-READINGS = ("exact", "watts", "display", "cost")
+TOTAL = 3_000
+# From so many calls on, each kind of call must have been accepted and refused; and so many faults are enough.
+ENOUGH, GREATEST_FAULTS = 2_000, 5
 
 
 def least_level(rng: Random, lib: Library) -> str:
     t = cases.any_table(rng)
     box = cases.box(rng, t.w, t.h)
-    tree = octets(t.tree)
-    got = lib.least_level(t.w, t.h, tree, box)
+    got = lib.least_level(t.w, t.h, octets(t.tree), box)
     want = calls.least_level(t.w, t.h, t.tree, box).answer
-    return differ(f"least_level {t.w} {t.h} {t.tree} {box}", got, want, (tree, t.tree))
+    return differ(f"least_level {t.w} {t.h} {t.tree} {box}", got, want)
 
 
 def activity(rng: Random, lib: Library) -> str:
     t = cases.any_table(rng)
     level = rng.choice((0, 1, 2, 3, 3, 4, 2**40))
     lent = [9] * cases.output_length(rng, cases.level_places(t, level))
-    tree, out = octets(t.tree), octets(lent)
-    got = lib.activity(t.w, t.h, tree, level, out)
+    out = octets(lent)
+    got = lib.activity(t.w, t.h, octets(t.tree), level, out)
     want = calls.activity(t.w, t.h, t.tree, level, lent)
     return differ(f"activity {t.w} {t.h} {t.tree} {level} {len(lent)}", got, want.answer,
-                  (tree, t.tree), (out, want.lent["activity_out"]))
+                  (out, want.lent["activity_out"]))
 
 
 def fresh(rng: Random, lib: Library) -> str:
@@ -55,25 +60,19 @@ def fresh(rng: Random, lib: Library) -> str:
 
 def set_coefficient(rng: Random, lib: Library) -> str:
     t = cases.any_table(rng)
-    level = rng.choice((0, 1, 2, 3, 3, 4, 2**50))
-    side = 8 * 2**min(level, 3)
-    ends = (-3, cases.LEAST, cases.GREATEST)
-    i, j = (rng.choice((rng.randint(-4, side), rng.randint(-4, side), *ends)) for _ in range(2))
-    limit = 32_000 * 64**min(level, 3)
-    value = rng.choice((0, 5, -limit, limit, limit + 1, -limit - 1, cases.LEAST))
-    tree, values = octets(t.tree), numbers(t.coefficients)
-    got = lib.set_coefficient(t.w, t.h, tree, values, level, i, j, value)
-    want = calls.set_coefficient(t.w, t.h, t.tree, t.coefficients, level, i, j, value)
-    return differ(f"set {t.w} {t.h} {t.tree} {level} {i} {j} {value}", got, want.answer,
-                  (tree, t.tree), (values, want.lent["coefficients"]))
+    place = cases.setting(rng, t)
+    values = numbers(t.coefficients)
+    got = lib.set_coefficient(t.w, t.h, octets(t.tree), values, *place)
+    want = calls.set_coefficient(t.w, t.h, t.tree, t.coefficients, *place)
+    return differ(f"set {t.w} {t.h} {t.tree} {place}", got, want.answer,
+                  (values, want.lent["coefficients"]))
 
 
 def table_cause(rng: Random, lib: Library) -> str:
     t = cases.any_table(rng)
-    tree, values = octets(t.tree), numbers(t.coefficients)
-    got = lib.table_cause(t.w, t.h, tree, values)
-    want = calls.judge_table(t.w, t.h, t.tree, t.coefficients) or 0
-    return differ(f"table_cause {t.w} {t.h} {t.tree}", got, want, (tree, t.tree), (values, t.coefficients))
+    got = lib.table_cause(t.w, t.h, octets(t.tree), numbers(t.coefficients))
+    cause = calls.judge_table(t.w, t.h, t.tree, t.coefficients)
+    return differ(f"table_cause {t.w} {t.h} {t.tree}", got, ("refused", cause) if cause else ("ok",))
 
 
 def reading(name: str, rng: Random, lib: Library) -> str:
@@ -84,12 +83,13 @@ def reading(name: str, rng: Random, lib: Library) -> str:
         place = cases.point(rng, t.w, t.h) + ((cases.tariff(rng),) if name == "cost" else ())
         got = getattr(lib, name)(t.w, t.h, tree, values, *place)
         if name == "watts":
-            allowed = got[0] != "wrote" and calls.float_allowed(t.w, t.h, t.tree, t.coefficients, *place, got)
-            want = got if allowed else ("within 2^-30 of the numerator over D",
-                                        calls.exact(t.w, t.h, t.tree, t.coefficients, *place).answer)
+            said = got.said()
+            allowed = calls.float_allowed(t.w, t.h, t.tree, t.coefficients, *place, said)
+            want = said if allowed else ("within 2^-30 of the numerator over D",
+                                         calls.exact(t.w, t.h, t.tree, t.coefficients, *place).answer)
         else:
             want = getattr(calls, name)(t.w, t.h, t.tree, t.coefficients, *place).answer
-        fault = differ(f"{name} {t.w} {t.h} {t.tree} {place}", got, want, (tree, t.tree), (values, t.coefficients))
+        fault = differ(f"{name} {t.w} {t.h} {t.tree} {place}", got, want)
         if fault:
             return fault
     return ""
@@ -101,91 +101,95 @@ CALLS: Dict[str, Callable[[Random, Library], str]] = {
     "fresh": fresh,
     "set": set_coefficient,
     "table_cause": table_cause,
-    **{name: partial(reading, name) for name in READINGS},
+    **{name: partial(reading, name) for name in fixed.READINGS},
+    **insertions.CALLS,
+    **files.CALLS,
 }
 
 
-def bench_sheet(lib: Library) -> List[str]:
-    """Document 01's bench cases that belong to these calls, with the answers that it gives."""
-    flat, refined = octets([0]), octets([4, 4, 4, 1] + [0] * 9)
-    level_1 = [0] * 16 + [2_048_000] * 25 + [0] * 170
-    over = [0] * 16 + [2_048_001] + [0] * 194
-    marks = [octets([9] * 25), octets([9] * 20), octets([9] * 35)]
-    checks = (
-        ("32,000 accepted", lib.table_cause(1, 1, flat, numbers([32_000] * 16 + [0] * 195)), 0),
-        ("32,001 gives 4", lib.table_cause(1, 1, flat, numbers([0] * 15 + [32_001] + [0] * 195)), 4),
-        ("level 1: 2,048,000 accepted", lib.table_cause(1, 1, refined, numbers(level_1)), 0),
-        ("level 1: 2,048,001 gives 4", lib.table_cause(1, 1, refined, numbers(over)), 4),
-        ("least level 1, 4 nodes", lib.least_level(1, 1, refined, (0, 0, 4, 4)), ("ok", 1, 4)),
-        ("least level 0, 5 nodes", lib.least_level(2, 1, refined, (0, 0, 8, 4)), ("ok", 0, 5)),
-        ("box 0,0 to 5,4 gives 7", lib.least_level(1, 1, flat, (0, 0, 5, 4)), ("refused", 7)),
-        ("tree 4 0 0 0 0 gives 2", lib.least_level(8, 8, octets([4, 0, 0, 0, 0]), (0, 0, 4, 4)), ("refused", 2)),
-        ("tree 1 on 1 by 1 gives 2", lib.least_level(1, 1, octets([1]), (0, 0, 4, 4)), ("refused", 2)),
-        ("tree 1 on 8 by 8 accepted", lib.least_level(8, 8, octets([1]), (0, 0, 4, 4)), ("ok", 1, 1)),
-        ("activity 1 by 1", lib.activity(1, 1, refined, 1, marks[0]), ("ok",)),
-        ("activity 2 by 1, level 0", lib.activity(2, 1, refined, 0, marks[1]), ("ok",)),
-        ("activity 2 by 1, level 1", lib.activity(2, 1, refined, 1, marks[2]), ("ok",)),
-        ("25, 16 and 10 active", [sum(m.values()) for m in marks], [25, 16, 10]),
-    )
-    return [f"{words}: {got}" for words, got, want in checks if got != want]
+def one_case(lib: Library, number: int, seed: int) -> str:
+    """Makes the generated case of this number: what is not as it should be."""
+    lib.kind = list(CALLS)[number % len(CALLS)]
+    return CALLS[lib.kind](Random(seed * 1_000_003 + number), lib)
 
 
-def bench_readings(lib: Library) -> List[str]:
-    """The same for the readings, with the halves of document 01's rounding."""
-    def columns(*watts: int) -> Lent:
-        return numbers(list(watts) * 4 + [0] * 195)
-
-    d, flat, refined = 36 * 2**42, octets([0]), octets([4, 4, 4, 1] + [0] * 9)
-    s, one, corner, inner = columns(-1_000, 0, 1_000, 2_000), columns(1, 1, 1, 1), [1] + [0] * 210, [0] * 5 + [1]
-    s_1 = numbers([0] * 16 + [-32_000, 0, 32_000, 64_000, 96_000] * 5 + [0] * 170)
-    checks = (
-        ("S at (64, 5)", lib.exact(1, 1, flat, s, 64, 5), ("ok", 500 * d)),
-        ("S with level 1 at (64, 5)", lib.exact(1, 1, refined, s_1, 64, 5), ("ok", 500 * d)),
-        ("only (-3, -3), at (0, 0)", lib.exact(1, 1, flat, numbers(corner), 0, 0), ("ok", 2**42)),
-        ("only (-3, -3), at (128, 128)", lib.exact(1, 1, flat, numbers(corner), 128, 128), ("ok", 0)),
-        ("only (-2, -2), at (0, 0)", lib.exact(1, 1, flat, numbers(inner + [0] * 205), 0, 0), ("ok", 2**46)),
-        ("u 128 accepted", lib.exact(1, 1, flat, s, 128, 0), ("ok", 1_000 * d)),
-        ("u 129 gives 6", lib.exact(1, 1, flat, s, 129, 0), ("refused", 6)),
-        ("500 watts as f64", lib.watts(1, 1, flat, s, 64, 5), ("ok", 500.0)),
-        ("0.5 shows 1", lib.display(1, 1, flat, columns(-1, 0, 1, 2), 64, 5), ("ok", 1)),
-        ("-0.5 shows 0", lib.display(1, 1, flat, columns(-2, -1, 0, 1), 64, 5), ("ok", 0)),
-        ("-1.5 shows -1", lib.display(1, 1, flat, columns(-3, -2, -1, 0), 64, 5), ("ok", -1)),
-        ("1 watt, tariff 1,499", lib.cost(1, 1, flat, one, 9, 9, 1_499), ("ok", 1)),
-        ("1 watt, tariff 1,500", lib.cost(1, 1, flat, one, 9, 9, 1_500), ("ok", 2)),
-        ("-1 watt costs 0", lib.cost(1, 1, flat, columns(-1, -1, -1, -1), 9, 9, 99_999), ("ok", 0)),
-        ("tariff 100,000 gives 11", lib.cost(1, 1, flat, one, 9, 9, 100_000), ("refused", 11)),
-        ("a point off the sheet comes before a tariff", lib.cost(1, 1, flat, one, 9, 129, 100_000), ("refused", 6)),
-    )
-    return [f"{words}: {got}" for words, got, want in checks if got != want]
+def one_sided(counts: Dict[str, List[int]]) -> List[str]:
+    """A line for each kind of call that was never made, accepted or refused, so that the run shows little of it."""
+    made = {kind.split(",")[0] for kind in counts}
+    return [f"{kind}: never made" for kind in CALLS if kind not in made] + [
+        f"{kind}: never {word}" for kind, given in counts.items()
+        for word, count in zip(("accepted", "refused"), given) if count == 0]
 
 
-def hold(lib: Library, words: str, total: int, seed: int) -> int:
-    """Makes the bench cases and generated calls, and returns the faults."""
-    tests = {**CALLS, **insertions.CALLS}
-    wrong = bench_sheet(lib) + bench_readings(lib) + insertions.bench_insertions(lib)
-    wrong += insertions.whole_grid(Random(seed), lib)
-    names = list(tests)
-    for told in wrong:
-        print(f"fixed case: {told}")
-    faults = len(wrong)
+def generated(lib: Library, words: str, command: str, total: int, seed: int) -> int:
+    """Makes generated calls and returns the faults."""
+    faults = 0
     for k in range(total):
-        name = names[k % len(names)]
-        fault = tests[name](Random(seed * 1_000_003 + k), lib)
+        alone = f"{command} --case {k} --seed {seed}"
+        try:
+            fault = one_case(lib, k, seed)
+        except BaseException:
+            print(f"case {k} of seed {seed} was left; alone: {alone}", flush=True)
+            raise
         if fault:
             faults += 1
-            print(f"case {k} of seed {seed}: {fault[:2000]}")
-            if faults >= 5:
-                break
+            print(f"case {k} of seed {seed}: {fault[:2000]}\nalone: {alone}", flush=True)
+            if faults >= GREATEST_FAULTS:
+                print(f"{words}: stopped after case {k}")
+                return faults
         if total > 5_000 and k % 5_000 == 4_999:
             print(f"{words}: {k + 1} of {total}", flush=True)
-    print(f"{words}: {total} calls, {faults} faults")
+    if total >= ENOUGH:
+        for told in one_sided(lib.counts):
+            faults += 1
+            print(f"in {total} calls of seed {seed}: {told}")
     return faults
 
 
+def hold(lib: Library, words: str, command: str, asked: Namespace) -> int:
+    """Makes the case that is asked for, or the fixed cases and generated calls, and returns the exit code."""
+    if asked.case is not None:
+        fault = one_case(lib, asked.case, asked.seed)
+        print(fault or f"{words}: case {asked.case} of seed {asked.seed} ({lib.kind}) has no fault")
+        faults = 1 if fault else 0
+    else:
+        wrong = fixed.faults(lib, asked.seed)
+        for told in wrong:
+            print(f"fixed case: {told[:2000]}\nalone: {command} 0 {asked.seed}")
+        lib.counts.clear()
+        faults = len(wrong) + generated(lib, words, command, asked.calls, asked.seed)
+        print(f"{words}: {asked.calls} calls, {faults} faults")
+    if asked.counts:
+        for kind, (accepted, refused) in lib.counts.items():
+            print(f"{kind}: {accepted} accepted, {refused} refused")
+    return 1 if faults else 0
+
+
+def asked_for(script: str) -> Namespace:
+    """What the command line asks for: calls, seed, case (None for all) and counts."""
+    parser = ArgumentParser(prog=script)
+    parser.add_argument("calls", nargs="?", type=int, metavar="CALLS", help=f"generated calls, or {TOTAL}")
+    parser.add_argument("drawn_from", nargs="?", type=int, metavar="SEED", help=f"seed of all cases, or {SEED}")
+    parser.add_argument("--seed", type=int, help="the same as SEED")
+    parser.add_argument("--case", type=int, metavar="NUMBER", help="make this generated case alone")
+    parser.add_argument("--counts", action="store_true", help="print how many calls were accepted and refused")
+    asked = parser.parse_intermixed_args()
+    if asked.case is not None and asked.calls is not None:
+        parser.error("a case is made alone: name it without CALLS")
+    if asked.seed is not None and asked.drawn_from is not None:
+        parser.error("the seed is given twice")
+    if min(asked.calls or 0, asked.case or 0) < 0:
+        parser.error("calls and cases are counted from 0")
+    asked.calls = TOTAL if asked.calls is None else asked.calls
+    given = [seed for seed in (asked.seed, asked.drawn_from) if seed is not None]
+    asked.seed = given[0] if given else SEED
+    return asked
+
+
 def main() -> int:
-    total = int(sys.argv[1]) if len(sys.argv) > 1 else 3_000
-    seed = int(sys.argv[2]) if len(sys.argv) > 2 else SEED
-    return 1 if hold(Library(build()), "differential", total, seed) else 0
+    script = Path(__file__).resolve().relative_to(ROOT)
+    asked = asked_for(script.name)
+    return hold(Library(build()), "differential", f"python3 {script}", asked)
 
 
 if __name__ == "__main__":

@@ -3,6 +3,7 @@ use Prim.Native.Nat.{ℕ}
 use lib.IntN.{ℤ}
 use lib.Ieee.{Float}
 use Rattle.surface.specs.Calls.{Answer, refused, gives, LeastLevel}
+use Rattle.surface.specs.TableFile.{FileResult}
 use Rattle.answers.specs.declared.Outcome as O
 use Rattle.answers.specs.declared.Outcome.{Outcome}
 use Rattle.answers.specs.declared.Length as L
@@ -17,6 +18,8 @@ use Rattle.answers.specs.declared.Display as D
 use Rattle.answers.specs.declared.Display.{Display}
 use Rattle.answers.specs.declared.Cost as C
 use Rattle.answers.specs.declared.Cost.{Cost}
+use Rattle.answers.specs.declared.File as F
+use Rattle.answers.specs.declared.File.{File}
 
 abbrev pub outcomeAnswer : Outcome → Answer (Unit {0})
 outcomeAnswer O.the-variants.Done = gives tt
@@ -45,3 +48,7 @@ displayAnswer (D.the-variants.Refused n) = refused n
 abbrev pub costAnswer : Cost → Answer ℕ
 costAnswer (C.the-variants.Hundredths n) = gives n
 costAnswer (C.the-variants.Refused n) = refused n
+
+abbrev pub fileAnswer : File → Answer FileResult
+fileAnswer (F.the-variants.Loaded n w h) = gives (record { treeLength = n; W = w; H = h })
+fileAnswer (F.the-variants.Refused n) = refused n

@@ -41,3 +41,9 @@ pub enum Cost {
     Hundredths(usize),
     Refused(u8),
 }
+
+// File reading returns the tree's length and the sides of the sheet.
+pub enum File {
+    Loaded { length: usize, w: usize, h: usize },
+    Refused(u8),
+}

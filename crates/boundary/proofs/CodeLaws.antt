@@ -5,7 +5,8 @@ use lib.IntN.{ℤ}
 use lib.Ieee.{Float}
 use Rattle.surface.specs.Calls.{Answer, refused, gives, LeastLevel}
 use Rattle.surface.specs.FloatReading.{FloatMeets}
-use Rattle.boundary.specs.Codes.{codeOf, orGiven, levelOf, visitedOf, itself, WattsAfter}
+use Rattle.surface.specs.TableFile.{FileResult}
+use Rattle.boundary.specs.Codes.{codeOf, orGiven, levelOf, visitedOf, itself, WattsAfter, FileTold}
 
 -- what the least level call leaves in its parameters
 abbrev pub Told : Answer LeastLevel → ℕ → ℕ → ℕ → ℕ → ℕ → Type 0
@@ -42,3 +43,11 @@ pub watts-refused : (o : Answer ℤ) (n : ℕ) (old : Float) → FloatMeets o (r
     → (n ≡ codeOf o) × WattsAfter o old old
 watts-refused (refused m) n old e = (e, refl)
 watts-refused (gives m) n old e = absurd e
+
+-- what file reading leaves at its parameters
+pub file-given : {o : Answer FileResult} (n W H a b c : ℕ)
+    → gives (record { treeLength = n; W = W; H = H }) ≡ o → (0 ≡ codeOf o) × FileTold o n a W b H c
+file-given n W H a b c e = subst (λ o. (0 ≡ codeOf o) × FileTold o n a W b H c) e (refl, (refl, refl, refl))
+
+pub file-refused : {o : Answer FileResult} (n a b c : ℕ) → refused n ≡ o → (n ≡ codeOf o) × FileTold o a a b b c c
+file-refused n a b c e = subst (λ o. (n ≡ codeOf o) × FileTold o a a b b c c) e (refl, (refl, refl, refl))

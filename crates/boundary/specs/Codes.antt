@@ -7,6 +7,7 @@ use lib.Ieee.{Float}
 use Rattle.surface.specs.Truncation.{D}
 use Rattle.surface.specs.Calls.{Answer, refused, gives, LeastLevel, Written}
 use Rattle.surface.specs.FloatReading.{Near}
+use Rattle.surface.specs.TableFile.{FileResult}
 
 -- the refusal number, 0 where the call gives its result
 abbrev pub codeOf : {A : Type 0} → Answer A → ℕ
@@ -40,3 +41,17 @@ TableWritten o code tree numbers before after =
     × (tree ≡ o .tree)
     × (numbers ≡ o .numbers)
     × (after ≡ orGiven itself (o .result) before)
+
+abbrev pub lengthOf : FileResult → ℕ
+lengthOf r = r .treeLength
+
+abbrev pub wOf : FileResult → ℕ
+wOf r = r .W
+
+abbrev pub hOf : FileResult → ℕ
+hOf r = r .H
+
+-- what file reading leaves at its three parameters: the tree's length, W and H
+abbrev pub FileTold : Answer FileResult → ℕ → ℕ → ℕ → ℕ → ℕ → ℕ → Type 0
+FileTold o length length₀ w w₀ h h₀ =
+    (length ≡ orGiven lengthOf o length₀) × (w ≡ orGiven wOf o w₀) × (h ≡ orGiven hOf o h₀)

@@ -6,7 +6,9 @@ ghost use Prim.Native.Nat.{ℕ};
 ghost use Rattle.surface.specs.Table.{tableCause};
 ghost use Rattle.surface.specs.Calls.{leastOutcome, activityOutcome, freshOutcome, insertOutcome, setOutcome};
 ghost use Rattle.surface.specs.Calls.{exactOutcome, displayOutcome, costOutcome};
-ghost use Rattle.boundary.specs.Codes.{codeOf, orGiven, levelOf, visitedOf, itself, WattsAfter, TableWritten};
+ghost use Rattle.surface.specs.TableFile.{fileOutcome};
+ghost use Rattle.boundary.specs.Codes.{codeOf, orGiven, levelOf, visitedOf, itself, WattsAfter};
+ghost use Rattle.boundary.specs.Codes.{TableWritten, FileTold};
 
 // The least level under a box: `level` receives it, `visited` the number of tree nodes visited.
 #[no_mangle]
@@ -256,5 +258,42 @@ pub extern "C" fn kiln_cost(
             0
         }
         answers::Cost::Refused(n) => n,
+    }
+}
+
+// Loads a table file; `length`, `w` and `h` receive the tree's length and the sides.
+#[no_mangle]
+pub extern "C" fn kiln_read_file(
+    file: &[u8],
+    tree_out: &mut [u8],
+    numbers_out: &mut [i64],
+    length: &mut usize,
+    w: &mut usize,
+    h: &mut usize,
+) -> u8
+    ensures { λ r. ⌜ (r
+        ≡ codeOf ((fileOutcome (now (file .entry)) (now («tree_out» .entry)) (now («numbers_out» .entry))) .result))
+        × (now («tree_out» .exit)
+        ≡ (fileOutcome (now (file .entry)) (now («tree_out» .entry)) (now («numbers_out» .entry))) .tree)
+        × (now («numbers_out» .exit)
+        ≡ (fileOutcome (now (file .entry)) (now («tree_out» .entry)) (now («numbers_out» .entry))) .numbers)
+        × FileTold
+        ((fileOutcome (now (file .entry)) (now («tree_out» .entry)) (now («numbers_out» .entry))) .result)
+        (now (length .exit)) (now (length .entry)) (now (w .exit)) (now (w .entry))
+        (now (h .exit)) (now (h .entry)) ⌝ }
+{
+    let r = loading::read_file(file, tree_out, numbers_out);
+    match r {
+        answers::File::Loaded {
+            length: n,
+            w: wide,
+            h: high,
+        } => {
+            *length = n;
+            *w = wide;
+            *h = high;
+            0
+        }
+        answers::File::Refused(n) => n,
     }
 }

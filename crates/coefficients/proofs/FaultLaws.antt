@@ -40,18 +40,18 @@ low-fits {m} e h = rw (low e) (go m h)
 
 -- c is past m, or past -m, or past neither
 module _ {c z : ℤ} {m : ℕ} (s : SFits w64 c) (e : z ≡ pos m) where
-  above : ltZ z (toZ w64 (ofZ w64 c)) ≡ true → m < natAbs c
+  pub above : ltZ z (toZ w64 (ofZ w64 c)) ≡ true → m < natAbs c
   above t =
       let u : ltZ (pos m) c ≡ true = rw (e, toZ-ofZ w64 c s) at t in
       lt-of-not-le (λ h. clashℤ (ltZ-yes (subst T (sym u) tt)) (abs-le c h .1))
 
   module _ (f : SFits w64 (pos 0 -ℤ z)) where
-    below : ltZ (toZ w64 (ofZ w64 c)) (toZ w64 (ofZ w64 (pos 0 -ℤ z))) ≡ true → m < natAbs c
+    pub below : ltZ (toZ w64 (ofZ w64 c)) (toZ w64 (ofZ w64 (pos 0 -ℤ z))) ≡ true → m < natAbs c
     below t =
         let u : ltZ c (negℤ (pos m)) ≡ true = rw (toZ-ofZ w64 c s, toZ-ofZ w64 (pos 0 -ℤ z) f, low e) at t in
         lt-of-not-le (λ h. clashℤ (ltZ-yes (subst T (sym u) tt)) (abs-le c h .0))
 
-    between : ltZ z (toZ w64 (ofZ w64 c)) ≡ false
+    pub between : ltZ z (toZ w64 (ofZ w64 c)) ≡ false
         → ltZ (toZ w64 (ofZ w64 c)) (toZ w64 (ofZ w64 (pos 0 -ℤ z))) ≡ false
         → natAbs c ≤ m
     between t u =

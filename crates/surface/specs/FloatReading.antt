@@ -13,7 +13,8 @@ signed true n = negℤ (pos n)
 signed false n = pos n
 
 -- The f64 is within 1/b of the fraction n/d: "The bound ... is stated over whole numbers: the f64 is a whole number
--- times a power of two." The value of `fin s m e` is ±m×2^e, and 2^e is up e / down e. Neither NaN nor an infinity is near.
+-- times a power of two." The value of `fin s m e` is ±m×2^e, and 2^e is up e / down e. Neither NaN nor an infinity is
+-- near.
 abbrev pub Near : ℕ → ℕ → ℤ → Float → Type 0
 Near b d n nan = ⊥
 Near b d n (inf s) = ⊥

@@ -7,7 +7,7 @@ ghost use Rattle.surface.specs.Calls.{boxCause};
 ghost use Rattle.quadtree.specs.Visit.{boxOf};
 ghost use Rattle.quadtree.specs.Paint.{levelMap};
 
-fn good_side(n: usize) -> bool
+pub fn good_side(n: usize) -> bool
     ensures { λ r. ⌜ r ≡ goodSide n ⌝ }
 {
     if 1 <= n { n <= 8 } else { false }

@@ -1,0 +1,60 @@
+use mathlib.Core.Path.{sym, ap, _∙_}
+use Rattle.answers.specs.Answers.{fileAnswer}
+use Rattle.boundary.proofs.CodeLaws.{file-given, file-refused}
+use borrow.Author.Needs.{needs}
+use Rattle.boundary.proofs.kiln_read_file.Statement.{statement}
+use Rattle.boundary.proofs.kiln_read_file.Tie as tie
+
+read-file-requires : tie.Need-read-file-requires
+read-file-requires c κs = search needs
+
+enum-known-r : tie.Need-enum-known-r
+enum-known-r c = search needs
+
+enum-known-r-2 : tie.Need-enum-known-r-2
+enum-known-r-2 c = search needs
+
+same-length : tie.Need-same-length
+same-length c = search needs
+
+same-length-2 : tie.Need-same-length-2
+same-length-2 c = search needs
+
+returns : tie.Need-returns
+returns c =
+    let s = c .before .before .before .before .before .before .before .before .before .before .before in
+    let e = c .before .before .before .before .before .before .read-file .ensures in
+    let a = s .args in
+    let t = file-given (c .before .r .given .0 .0) (c .before .r .given .0 .1 .0) (c .before .r .given .0 .1 .1 .0)
+    (a .length .now) (a .w .now) (a .h .now)
+    (ap fileAnswer (sym (c .before .r .given .1)) ∙ e .0) in
+    (t .0, e .1, e .2, t .1)
+
+same-length-3 : tie.Need-same-length-3
+same-length-3 c = search needs
+
+same-length-4 : tie.Need-same-length-4
+same-length-4 c = search needs
+
+returns-2 : tie.Need-returns-2
+returns-2 c =
+    let s = c .before .before .before .before .before .before .before .before .before .before .before in
+    let e = c .before .before .before .before .before .before .read-file .ensures in
+    let a = s .args in
+    let t = file-refused (c .before .r2 .given .0 .0) (a .length .now) (a .w .now) (a .h .now)
+    (ap fileAnswer (sym (c .before .r2 .given .1)) ∙ e .0) in
+    (t .0, e .1, e .2, t .1)
+
+pub kiln-read-file-spec : {M : Type 1} → statement M
+kiln-read-file-spec =
+    tie.close
+    (tie.spec
+    read-file-requires
+    enum-known-r
+    enum-known-r-2
+    same-length
+    same-length-2
+    returns
+    same-length-3
+    same-length-4
+    returns-2)

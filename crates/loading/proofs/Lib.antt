@@ -1,0 +1,7 @@
+pub mod FieldLaws
+pub mod NumberLaws
+pub mod CountLaws
+pub mod LoadLaws
+pub mod JudgeLaws
+pub mod FileLaws
+pub mod ReadLaws

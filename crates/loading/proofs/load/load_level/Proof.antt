@@ -1,0 +1,209 @@
+-- Before each turn the rows below b are loaded.
+use mathlib.Core.Path.{_≡_, sym, ap, ap₂, _∙_, subst}
+use Prim.Native.Nat.{_+_, _-_, _*_, _≤_, _<_}
+use native.Mathlib.Nat.{mul-comm, le-add-right}
+use native.Mathlib.Omega.{arith}
+use borrow.Author.Needs.{needs}
+use lib.ListN.{length}
+use Rattle.finite.specs.Range.{count, tableFrom, grid}
+use Rattle.surface.specs.Sheet.{functions}
+use Rattle.surface.specs.Table.{places}
+use Rattle.surface.specs.TableFile.{activeInRow, loaded}
+use Rattle.coefficients.proofs.Parts.{part, row-small, row-fits, part-length}
+use Rattle.activity.specs.Minima.{levelsOf}
+use Rattle.activity.proofs.MarkLaws.{rowsWritten, rows-none, rows-next, rows-all}
+use Rattle.loading.specs.Levels.{is, rowLoaded}
+use Rattle.loading.proofs.CountLaws.{total-none, total-more, row-count}
+use Rattle.loading.proofs.LoadLaws.{rowsBefore, row-within, row-loaded}
+use Rattle.loading.proofs.load.load_level.Statement.{statement}
+use Rattle.loading.proofs.load.load_level.Tie as tie
+
+abbrev Inv-loop : tie.InvT-loop
+Inv-loop body part₀ map w h level n m minima next₀ b₀ part next b =
+    (b ≤ m)
+    × (length part ≡ places w h level)
+    × (next ≡ rowsBefore w h (levelsOf map) level b)
+    × (part ≡ rowsWritten n b (loaded w h (levelsOf map) level body) part₀)
+
+abbrev μ-loop : tie.MeasureT-loop
+μ-loop body part₀ map w h level n m minima next₀ b₀ part next b = m - b
+
+functions-requires : tie.Need-functions-requires Inv-loop μ-loop
+functions-requires c κs = search needs
+
+functions-requires-2 : tie.Need-functions-requires-2 Inv-loop μ-loop
+functions-requires-2 c κs = search needs
+
+row-minima-requires : tie.Need-row-minima-requires Inv-loop μ-loop
+row-minima-requires c κs = search needs
+
+loop-holds : tie.Need-loop-holds Inv-loop μ-loop
+loop-holds c =
+    let n = c .before .before .functions .result in
+    let s = c .before .before .before .before in
+    let a = s .args in
+    let f = loaded (a .w) (a .h) (levelsOf (a .map .now)) (a .level) (a .body .now) in
+    (omega arith, s .pre .4, total-none _, rows-none n f (a .part .now))
+
+support-minima-requires : tie.Need-support-minima-requires Inv-loop μ-loop
+support-minima-requires c κs = search needs
+
+-- a turn's row is inside the part, and its place is small
+inside : (c : tie.In-loop Inv-loop μ-loop)
+    → c .before .loop .b * c .before .before .before .before .functions .result
+    + c .before .before .before .before .functions .result
+    ≤ length (c .before .loop .part)
+inside c =
+    let rows = c .before .before .before in
+    let columns = rows .before in
+    let a = columns .before .before .args in
+    rw (c .before .loop .inv .1)
+    (row-fits (a .w) (a .h) (a .level) (columns .functions .result) (c .before .loop .b)
+    (columns .functions .ensures .0)
+    (subst (λ k. c .before .loop .b < k) (rows .functions2 .ensures .0) (c .loop-test .taken)))
+
+small : (c : tie.In-loop Inv-loop μ-loop)
+    → (c .before .loop .b * c .before .before .before .before .functions .result ≤ 4489) × (c .before .loop .b < 67)
+small c =
+    let rows = c .before .before .before in
+    let few : c .before .loop .b < 67 = omega (arith, c .loop-test .taken, rows .functions2 .ensures .1) in
+    (row-small (c .before .loop .b) (rows .before .functions .result) few (rows .before .functions .ensures .1), few)
+
+mul-from : tie.Need-mul-from Inv-loop μ-loop
+mul-from c = omega (arith, small (c .before .before) .0)
+
+add-to : tie.Need-add-to Inv-loop μ-loop
+add-to c =
+    let turn = c .before .before in
+    omega (arith, small turn .0, turn .before .before .before .before .functions .ensures .1)
+
+mul-load-row : tie.Need-mul-load-row Inv-loop μ-loop
+mul-load-row c = omega (arith, small (c .before .before) .0)
+
+sub-load-row : tie.Need-sub-load-row Inv-loop μ-loop
+sub-load-row c = le-add-right _ _
+
+part-load-row-start : tie.Need-part-load-row-start Inv-loop μ-loop
+part-load-row-start c = le-add-right _ _
+
+part-load-row-end : tie.Need-part-load-row-end Inv-loop μ-loop
+part-load-row-end c = inside (c .before .before)
+
+cast-load-row : tie.Need-cast-load-row Inv-loop μ-loop
+cast-load-row c = search needs
+
+-- the count of a turn's row
+counted : (c : tie.After-support-minima Inv-loop μ-loop)
+    → let columns = c .before .before .before .before .before .before in
+    let a = columns .before .before .args in
+    count (columns .functions .result) (is (a .level) (c .support-minima .result))
+    ≡ activeInRow (a .w) (a .h) (levelsOf (a .map .now)) (a .level) (c .before .before .before .loop .b)
+counted c =
+    let turn = c .before .before in
+    let minima = turn .before .before in
+    let columns = minima .before .before in
+    let s = columns .before .before in
+    let a = s .args in
+    row-count (a .w) (a .h) (a .level) (columns .functions .result) (turn .before .loop .b) (a .map .now)
+    (minima .row-minima .result) (c .support-minima .result) (s .pre .0) (s .pre .1) (columns .functions .ensures .0)
+    (minima .row-minima .ensures) (c .support-minima .ensures)
+
+load-row-requires : tie.Need-load-row-requires Inv-loop μ-loop
+load-row-requires c κs =
+    let d = c .before .before in
+    let turn = d .before .before in
+    let rows = turn .before .before .before in
+    let columns = rows .before in
+    let s = columns .before .before in
+    let a = s .args in
+    let n = columns .functions .result in
+    let b = turn .before .loop .b in
+    let size : length (part (b * n) n (turn .before .loop .part)) ≡ n =
+    part-length (b * n) n (turn .before .loop .part) (inside turn) in
+    let fit = row-within (a .w) (a .h) (a .level) b (levelsOf (a .map .now))
+    (subst (λ k. b < k) (rows .functions2 .ensures .0) (turn .loop-test .taken)) in (
+      omega (arith, size, columns .functions .ensures .1),
+      rw size (omega (arith, counted d, turn .before .loop .inv .2, fit, s .pre .5)),
+    )
+
+add-b : tie.Need-add-b Inv-loop μ-loop
+add-b c = omega arith
+
+loop-less : tie.Need-loop-less Inv-loop μ-loop
+loop-less c = omega arith
+
+loop-again : tie.Need-loop-again Inv-loop μ-loop
+loop-again c =
+    let called = c .before in
+    let d = called .before .before .before in
+    let turn = d .before .before in
+    let minima = turn .before .before in
+    let columns = minima .before .before in
+    let s = columns .before .before in
+    let a = s .args in
+    let n = columns .functions .result in
+    let loop = turn .before .loop in
+    let b = loop .b in
+    let least = d .support-minima .result in
+    let f = loaded (a .w) (a .h) (levelsOf (a .map .now)) (a .level) (a .body .now) in
+    let count-n : b * n + n - b * n ≡ n = omega arith in
+    let size : length (part (b * n) n (loop .part)) ≡ n = part-length (b * n) n (loop .part) (inside turn) in
+    let row : called .load-row .last .1 .1 .0 ≡ tableFrom 0 n (λ i. f i b) =
+    called .load-row .ensures .0
+    ∙ ap (rowLoaded (a .level) least (a .body .now) (loop .next)) size
+    ∙ row-loaded (a .w) (a .h) (a .level) n b (a .map .now) (minima .row-minima .result) least (s .pre .0) (s .pre .1)
+    (columns .functions .ensures .0) (minima .row-minima .ensures) (d .support-minima .ensures) (a .body .now)
+    (loop .next) (loop .inv .2) in (
+      omega (arith, turn .loop-test .taken),
+      rw (loop .inv .1) at (c .part .given .1),
+      called .load-row .ensures .1
+          ∙ ap (λ k. loop .next + count k (is (a .level) least)) size
+          ∙ total-more b (loop .next) _ _ (loop .inv .2) (counted d),
+      rows-next n b (b * n + n - b * n) f (a .part .now) (loop .part) (called .load-row .last .1 .1 .0) (loop .inv .3)
+          count-n row,
+    )
+
+same-length : tie.Need-same-length Inv-loop μ-loop
+same-length c =
+    c .before .loop .inv .1 ∙ sym (c .before .before .before .before .before .before .pre .4)
+
+returns : tie.Need-returns Inv-loop μ-loop
+returns c =
+    let loop = c .before .loop in
+    let rows = c .before .before .before in
+    let columns = rows .before in
+    let s = columns .before .before in
+    let a = s .args in
+    let n = columns .functions .result in
+    let f = loaded (a .w) (a .h) (levelsOf (a .map .now)) (a .level) (a .body .now) in
+    let all : loop .b ≡ rows .functions2 .result = omega arith in
+    let sides = ap₂ _*_ (all ∙ rows .functions2 .ensures .0) (columns .functions .ensures .0) in
+    loop .inv .3
+    ∙ rows-all n (loop .b) f (a .part .now)
+    (sides ∙ mul-comm (functions (a .h) (a .level)) (functions (a .w) (a .level)) ∙ sym (s .pre .4))
+    ∙ ap₂ (λ n m. grid n m f) (columns .functions .ensures .0) (all ∙ rows .functions2 .ensures .0)
+
+pub load-level-spec : {M : Type 1} → statement M
+load-level-spec =
+    tie.close
+    (tie.spec
+    Inv-loop
+    μ-loop
+    functions-requires
+    functions-requires-2
+    row-minima-requires
+    loop-holds
+    support-minima-requires
+    mul-from
+    add-to
+    mul-load-row
+    sub-load-row
+    part-load-row-start
+    part-load-row-end
+    cast-load-row
+    load-row-requires
+    add-b
+    loop-less
+    loop-again
+    same-length
+    returns)

@@ -1,0 +1,110 @@
+// The judgement of a file in byte order. Nothing is written but the map of levels.
+use super::bytes::wide;
+use super::field::Field;
+use super::field::field_at;
+ghost use mathlib.Core.Path.{_≡_};
+ghost use mathlib.Core.Bool.{true};
+ghost use mathlib.Core.List.{List};
+ghost use Prim.Native.Nat.{ℕ, _≤_, _<_};
+ghost use lib.ListN.{length};
+ghost use Rattle.surface.specs.Table.{treeOf, formed};
+ghost use Rattle.quadtree.specs.Paint.{levelMap};
+ghost use Rattle.loading.specs.Judged.{sidesJudged, treeJudged, headJudged, inFile, levelJudged, levelsJudged};
+
+// The field of the sides, and the sides in it.
+fn sides_judge(file: &[u8]) -> Field
+    ensures { λ r. ⌜ sidesJudged r (now (file .entry)) ⌝ }
+{
+    let f = field_at(file, 0, 1, 2, 2);
+    let Field::Body(_) = f else {
+        return f;
+    };
+    let w = wide(file[3]);
+    let h = wide(file[4]);
+    if table::cause::good_side(w) {
+        if table::cause::good_side(h) {
+            return f;
+        }
+    }
+    Field::Faulty(1)
+}
+
+// Whether a tree is of the form, with its map of levels if it is.
+fn formed_map(t: &[u8], w: usize, h: usize, map: &mut [u8; 1024]) -> bool
+    requires { ⌜ (w ≤ 8) × (h ≤ 8) ⌝ }
+    ensures { λ r. ⌜ (r ≡ formed w h (treeOf (now (t .entry))))
+        × (r ≡ true → now (map .exit) ≡ levelMap (now (t .entry))) ⌝ }
+{
+    if quadtree::check::well_formed(t, w, h) {
+        *map = quadtree::paint::paint(t);
+        return true;
+    }
+    false
+}
+
+// The field of the tree, and the tree in it.
+fn tree_judge(file: &[u8], w: usize, h: usize, map: &mut [u8; 1024]) -> Field
+    requires { ⌜ (5 ≤ length (now file)) × (w ≤ 8) × (h ≤ 8) ⌝ }
+    ensures { λ r. ⌜ treeJudged r (now (file .entry)) w h (now (map .exit)) ⌝ }
+{
+    let f = field_at(file, 5, 2, 1, 1365);
+    let Field::Body(end) = f else {
+        return f;
+    };
+    if formed_map(&file[8..end], w, h, map) {
+        return f;
+    }
+    Field::Faulty(2)
+}
+
+// The field of a level, and the coefficients in it.
+fn level_judge(file: &[u8], at: usize, map: &[u8; 1024], w: usize, h: usize, level: usize) -> Field
+    requires { ⌜ (0 < w) × (w ≤ 8) × (h ≤ 8) × (level ≤ 3) × (at ≤ length (now file)) ⌝ }
+    ensures { λ r. ⌜ inFile r (now (file .entry)) × ((t : List ℕ) → now (map .entry) ≡ levelMap t
+        → levelJudged r (now (file .entry)) at w h level t) ⌝ }
+{
+    let count = super::count::active_count(map, w, h, level);
+    let n = 5 * count;
+    let tag = 16 + level as u8;
+    let f = field_at(file, at, tag, n, n);
+    let Field::Body(end) = f else {
+        return f;
+    };
+    let body = at + 3;
+    if super::number::within(&file[body..end], count, level) {
+        return f;
+    }
+    Field::Faulty(4)
+}
+
+// The fields of the levels from a position on, and the position after them.
+pub fn levels_judge(file: &[u8], from: usize, map: &[u8; 1024], w: usize, h: usize) -> Field
+    requires { ⌜ (0 < w) × (w ≤ 8) × (h ≤ 8) × (from ≤ length (now file)) ⌝ }
+    ensures { λ r. ⌜ inFile r (now (file .entry)) × ((t : List ℕ) → now (map .entry) ≡ levelMap t
+        → levelsJudged r (now (file .entry)) from w h t) ⌝ }
+{
+    let mut at = from;
+    let mut level = 0;
+    while level < 4 {
+        let f = level_judge(file, at, map, w, h, level);
+        let Field::Body(end) = f else {
+            return f;
+        };
+        at = end;
+        level += 1;
+    }
+    Field::Body(at)
+}
+
+// The fields before the levels', and the position after them.
+pub fn head_judge(file: &[u8], map: &mut [u8; 1024]) -> Field
+    ensures { λ r. ⌜ headJudged r (now (file .entry)) (now (map .exit)) ⌝ }
+{
+    let sides = sides_judge(file);
+    let Field::Body(_) = sides else {
+        return sides;
+    };
+    let w = wide(file[3]);
+    let h = wide(file[4]);
+    tree_judge(file, w, h, map)
+}

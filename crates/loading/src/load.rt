@@ -1,0 +1,89 @@
+// The coefficients of a level from its body: the active ones take its numbers in slice order, the others 0.
+ghost use mathlib.Core.Path.{_≡_};
+ghost use mathlib.Core.List.{List};
+ghost use Prim.Native.Nat.{_+_, _*_, _≤_, _<_};
+ghost use lib.IntN.{ℤ};
+ghost use lib.ListN.{length};
+ghost use Rattle.finite.specs.Range.{count};
+ghost use Rattle.surface.specs.Table.{places, slots};
+ghost use Rattle.surface.specs.TableFile.{activeCount};
+ghost use Rattle.activity.specs.Minima.{levelsOf};
+ghost use Rattle.loading.specs.Judged.{Head, holds};
+ghost use Rattle.loading.specs.Levels.{is, rowLoaded, levelLoaded};
+
+// Loads a row from the numbers of the body from `next` on, and returns the place of the first number left.
+fn load_row(body: &[u8], next: usize, row: &mut [i64], least: &[u8; 80], level: u8) -> usize
+    requires { ⌜ (length (now row) ≤ 80)
+        × (5 * (next + count (length (now row)) (is level (now least))) ≤ length (now body)) ⌝ }
+    ensures { λ r. ⌜ (now (row .exit)
+        ≡ rowLoaded level (now (least .entry)) (now (body .entry)) next (length (now (row .entry))))
+        × (r ≡ next + count (length (now (row .entry))) (is level (now (least .entry)))) ⌝ }
+{
+    let n = row.len();
+    let mut at = next;
+    let mut a = 0;
+    while a < n {
+        let mut c: i64 = 0;
+        if least[a] == level {
+            c = super::number::number_at(body, at);
+            at += 1;
+        }
+        row[a] = c;
+        a += 1;
+    }
+    at
+}
+
+// Loads a level's part of the coefficients from the level's body.
+pub fn load_level(body: &[u8], part: &mut [i64], map: &[u8; 1024], w: usize, h: usize, level: usize)
+    requires { ⌜ (0 < w) × (w ≤ 8) × (h ≤ 8) × (level ≤ 3) × (length (now part) ≡ places w h level)
+        × (length (now body) ≡ 5 * activeCount w h (levelsOf (now map)) level) ⌝ }
+    ensures { λ _. ⌜ now (part .exit) ≡ levelLoaded w h (levelsOf (now (map .entry))) level (now (body .entry)) ⌝ }
+{
+    let n = coefficients::functions(w, level);
+    let m = coefficients::functions(h, level);
+    let minima = activity::row_minima(map, w, h, level, n);
+    let mut next = 0;
+    let mut b = 0;
+    while b < m {
+        let least = activity::support_minima(&minima, h, level, b);
+        let from = b * n;
+        let to = from + n;
+        next = load_row(body, next, &mut part[from..to], &least, level as u8);
+        b += 1;
+    }
+}
+
+// Loads the coefficients of all levels from the fields that start at a position, which are judged good.
+pub fn load_levels(
+    file: &[u8],
+    from: usize,
+    map: &[u8; 1024],
+    w: usize,
+    h: usize,
+    numbers: &mut [i64],
+)
+    requires { ⌜ Head (now file) from w h (now map) × (length (now numbers) ≡ slots w h)
+        × ((found : List ℤ) × holds (now file) from w h found) ⌝ }
+    ensures { λ _. ⌜ ((found : List ℤ) → holds (now (file .entry)) from w h found
+        → now (numbers .exit) ≡ found) ⌝ }
+{
+    let mut at = from;
+    let mut level = 0;
+    while level < 4 {
+        let body = at + 3;
+        let end = body + super::field::length_at(file, at);
+        let first = coefficients::start(w, h, level);
+        let last = first + coefficients::places(w, h, level);
+        load_level(
+            &file[body..end],
+            &mut numbers[first..last],
+            map,
+            w,
+            h,
+            level,
+        );
+        at = end;
+        level += 1;
+    }
+}

@@ -1,0 +1,254 @@
+/* The kiln power surface: the library's calls, for C and C++.
+
+   Power draw over chamber temperature and climb rate is a surface of truncated hierarchical bicubic splines on a sheet
+   of W by H cells. The calls make, load, refine and read tables of such a surface. `rt staticlib boundary` writes the
+   library to target/staticlib/libboundary.a, for x86-64. It needs memcpy and memset and nothing else.
+
+   Answers
+     Every call returns 0 when it is done, else the refusal number of the cause that applies, the lowest where several
+     do (enum kiln_refusal). Each call below names those that it can give. What it gives beside is written through its
+     pointers. A refused call writes nothing: every buffer and every value that was lent holds what it held before.
+     Every call ends in one of the two, whatever the numbers and the contents of the buffers are.
+
+   Slices
+     A buffer passes as a pointer and, right after it, a length in elements. The length is taken as said: that many
+     elements must be there, aligned as their type is. An empty slice (length 0) may have any pointer, NULL too. A
+     pointer without a length after it is for a single value that the call writes; it must not be NULL. What an output
+     holds before the call does not matter.
+
+   Overlap
+     Whatever a call writes must not overlap anything else that it is lent. So an insertion writes another table and
+     never the one that it reads. Slices that a call only reads (const) may overlap each other.
+
+   Threads, stack and memory
+     The library has no state: what a call does depends on what it is lent and on nothing else. Any number of calls may
+     run at a time as long as none writes what another reads or writes; what is only read may be shared between
+     threads. No call allocates, takes a lock or touches a file, and none takes more than 16 KiB of stack. */
+#ifndef KILN_H
+#define KILN_H
+
+#include <stddef.h>
+#include <stdint.h>
+
+#ifdef __cplusplus
+extern "C" {
+#endif
+
+/* The table
+
+   A table is a sheet, a tree and a coefficient slice. It is acceptable when none of the causes 1 to 5 applies to it.
+
+   w, h: the sheet is w by h cells of level 0, each side 1 to 8. Levels are 0 to 3, and each one halves the cells.
+
+   tree: the regions. A quarter is a quarter of a level 0 cell's side; each square one quarter on a side has a level 0
+   to 3. The tree covers 32 by 32 quarters from the sheet's corner and is written parent first: bytes 0 to 3 are a leaf
+   of that level, byte 4 a split followed by its south-west, south-east, north-west and north-east children (west is
+   small u, south small v). A single quarter can't split, four children that are equal leaves are not allowed, and
+   squares beyond the sheet have level 0. So one set of regions has one tree, of 1 to 1,365 bytes. A lent tree ends
+   with its slice: pass the tree's own length, not that of the buffer that it stands in.
+
+   numbers: the coefficients, kiln_places(w, h) of them: level 0 first, then 1, 2, 3; in a level j rises, within a row
+   i rises. In level L both i and j start at -3; i ends at w*2^L - 1 and j at h*2^L - 1, so a row has w*2^L + 3 places
+   and there are h*2^L + 3 rows. A level L coefficient is a signed whole number of 1/64^L watt, at most 32,000*64^L in
+   size. A function is active when the least level under its support, cut to the sheet, is its own; passive places
+   hold 0.
+
+   u, v: a point, in steps of 1/128 cell: 0 to 128*w and 0 to 128*h, far edges included.
+
+   u0, v0, u1, v1: a box, two corners in whole quarters, low corner first: u0 < u1 <= 4*w and v0 < v1 <= 4*h.
+
+   A negative number that C turns into a size_t is far above every limit and is refused with its cause's number. */
+
+/* The causes of refusal. Later versions may have more numbers. */
+enum kiln_refusal {
+  KILN_DONE = 0,                /* no refusal */
+  KILN_SIDE = 1,                /* a side of 0 or above 8 */
+  KILN_TREE = 2,                /* tree not of the form above */
+  KILN_NUMBERS_LENGTH = 3,      /* coefficient slice not of the total length */
+  KILN_COEFFICIENT_LIMIT = 4,   /* active coefficient past its limit */
+  KILN_PASSIVE_NOT_ZERO = 5,    /* passive place not 0 */
+  KILN_POINT = 6,               /* point off the sheet */
+  KILN_BOX = 7,                 /* box with no area, or past the sheet */
+  KILN_LEVEL = 8,               /* level not 1 to 3 (insert) or 0 to 3 (set, activity) */
+  KILN_FUNCTION = 9,            /* set: index out of range or function passive */
+  KILN_NUMBER_LIMIT = 10,       /* set, fresh: number past its limit */
+  KILN_TARIFF = 11,             /* tariff above 99,999 */
+  KILN_FILE_ENDS = 12,          /* file ends inside a head or body */
+  KILN_FILE_TAG = 13,           /* other tag than the one due */
+  KILN_FILE_FIELD_LENGTH = 14,  /* field length wrong */
+  KILN_FILE_GOES_ON = 15,       /* bytes after the last field */
+  KILN_OUTPUT_LENGTH = 16,      /* numbers or activity output not of the exact length */
+  KILN_TREE_OUTPUT_SHORT = 17   /* tree output shorter than the tree */
+};
+
+/* No tree is longer: a tree output of this length is never too short. */
+#define KILN_TREE_BYTES 1365
+
+/* The places of an 8 by 8 sheet, the greatest number of coefficients. */
+#define KILN_PLACES 6196
+
+/* No file that is accepted is longer: the fields' heads, the sides, the longest tree and five bytes for each place. A
+   longer file is refused with the same number when only its first KILN_FILE_BYTES + 1 bytes are lent. */
+#define KILN_FILE_BYTES 32365
+
+/* D = 36 * 2^42: an exact reading of x watts has the numerator x * D. */
+#define KILN_DENOMINATOR INT64_C(158329674399744)
+
+/* The places of one level of a w by h sheet: the length of kiln_activity's output. 0 for a side that is not 1 to 8 or
+   a level that is not 0 to 3, which the calls refuse with another number. */
+static inline size_t kiln_level_places(size_t w, size_t h, size_t level) {
+  if (w < 1 || w > 8 || h < 1 || h > 8 || level > 3) return 0;
+  return ((w << level) + 3) * ((h << level) + 3);
+}
+
+/* The places of a w by h sheet: the length of its coefficient slice. 0 for a side that is not 1 to 8. */
+static inline size_t kiln_places(size_t w, size_t h) {
+  return kiln_level_places(w, h, 0) + kiln_level_places(w, h, 1) + kiln_level_places(w, h, 2)
+    + kiln_level_places(w, h, 3);
+}
+
+/* The places of the sheet of a table file, whose sides are its bytes 3 and 4: the length of the numbers output that
+   kiln_read_file needs. 0 where the file is too short to have sides or they are not 1 to 8, which is refused with
+   another number. */
+static inline size_t kiln_file_places(const uint8_t *file, size_t file_len) {
+  return file_len < 5 ? 0 : kiln_places(file[3], file[4]);
+}
+
+/* Judges a table: 0 for an acceptable one, else the lowest of the causes 1 to 5 that applies. Writes nothing.
+
+   w, h, tree, numbers   the table; any contents and lengths
+
+   Every other call that takes a table makes this check itself. */
+uint8_t kiln_table_cause(size_t w, size_t h, const uint8_t *tree, size_t tree_len, const int64_t *numbers,
+                         size_t numbers_len);
+
+/* The least level under a box, with the number of tree nodes visited: the root, and each child of a visited split
+   whose square shares area with the box.
+
+   w, h, tree       the sheet and its tree
+   u0, v0, u1, v1   the box
+   level            receives the least level, 0 to 3
+   visited          receives the number of nodes
+
+   Refusals: 1, 2, 7. A refusal leaves level and visited as they were. */
+uint8_t kiln_least_level(size_t w, size_t h, const uint8_t *tree, size_t tree_len, size_t u0, size_t v0, size_t u1,
+                         size_t v1, uint8_t *level, size_t *visited);
+
+/* The activity of a level: one byte for each of its places, in the order of the coefficients, 1 for an active function
+   and 0 for a passive one.
+
+   w, h, tree   the sheet and its tree
+   level        0 to 3
+   out          receives the bytes; its length must be kiln_level_places(w, h, level)
+
+   Refusals: 1, 2, 8, 16. A refusal leaves out as it was. */
+uint8_t kiln_activity(size_t w, size_t h, const uint8_t *tree, size_t tree_len, size_t level, uint8_t *out,
+                      size_t out_len);
+
+/* A fresh table: the tree is the one byte 0, all level 0 coefficients are one number and all other places 0.
+
+   w, h          the sheet
+   number        whole watts, -32,000 to 32,000
+   tree_out      receives the tree; 1 byte or longer, and what is past the tree is untouched
+   numbers_out   receives the coefficients; its length must be kiln_places(w, h)
+   length        receives the tree's length, 1
+
+   Refusals: 1, 10, 16, 17. A refusal leaves tree_out, numbers_out and length as they were. */
+uint8_t kiln_fresh(size_t w, size_t h, int64_t number, uint8_t *tree_out, size_t tree_out_len, int64_t *numbers_out,
+                   size_t numbers_out_len, size_t *length);
+
+/* Inserts a box: each square in it gets the greater of its old level and the one named, and the coefficients are
+   carried over, so that the exact reading at every point of the sheet stays what it was. Reads one table and writes
+   another.
+
+   w, h, tree, numbers   the table that is read; it is not changed
+   u0, v0, u1, v1        the box
+   level                 1 to 3
+   tree_out              receives the new tree; as long as the new tree or longer (KILN_TREE_BYTES always is), and what
+                         is past the tree is untouched
+   numbers_out           receives the new coefficients; its length must be kiln_places(w, h)
+   length                receives the new tree's length
+
+   Refusals: 1 to 5, 7, 8, 16, 17. A refusal leaves tree_out, numbers_out and length as they were. */
+uint8_t kiln_insert(size_t w, size_t h, const uint8_t *tree, size_t tree_len, const int64_t *numbers,
+                    size_t numbers_len, size_t u0, size_t v0, size_t u1, size_t v1, size_t level, uint8_t *tree_out,
+                    size_t tree_out_len, int64_t *numbers_out, size_t numbers_out_len, size_t *length);
+
+/* Sets one active coefficient and writes its one place.
+
+   w, h, tree   the table's sheet and tree
+   numbers      the table's coefficients, of which one is written
+   level        the function's level, 0 to 3
+   i, j         the function, each from -3
+   number       the coefficient in units of 1/64^level watt, at most 32,000*64^level in size
+
+   Refusals: 1 to 5, 8, 9, 10. A refusal leaves numbers as they were. */
+uint8_t kiln_set(size_t w, size_t h, const uint8_t *tree, size_t tree_len, int64_t *numbers, size_t numbers_len,
+                 size_t level, int64_t i, int64_t j, int64_t number);
+
+/* The exact reading at a point: what the active coefficients times their truncated functions add up to.
+
+   w, h, tree, numbers   the table
+   u, v                  the point
+   numerator             receives the watts as a numerator over KILN_DENOMINATOR
+
+   Refusals: 1 to 6. A refusal leaves numerator as it was. */
+uint8_t kiln_exact(size_t w, size_t h, const uint8_t *tree, size_t tree_len, const int64_t *numbers,
+                   size_t numbers_len, size_t u, size_t v, int64_t *numerator);
+
+/* The reading at a point as a double, which lies within 2^-30 watt of the exact one. Doubles must be rounded to
+   nearest, as they are unless a program says otherwise.
+
+   w, h, tree, numbers   the table
+   u, v                  the point
+   watts                 receives the watts; neither an infinity nor NaN
+
+   Refusals: 1 to 6. A refusal leaves watts as they were. */
+uint8_t kiln_watts(size_t w, size_t h, const uint8_t *tree, size_t tree_len, const int64_t *numbers,
+                   size_t numbers_len, size_t u, size_t v, double *watts);
+
+/* The figure for the display: the exact watts rounded to the nearest whole number, halves upward, also below zero
+   (-0.5 gives 0 and -1.5 gives -1).
+
+   w, h, tree, numbers   the table
+   u, v                  the point
+   watts                 receives the whole watts
+
+   Refusals: 1 to 6. A refusal leaves watts as they were. */
+uint8_t kiln_display(size_t w, size_t h, const uint8_t *tree, size_t tree_len, const int64_t *numbers,
+                     size_t numbers_len, size_t u, size_t v, int64_t *watts);
+
+/* The cost per hour: the display's whole watts times the tariff over 1,000, nearest, halves upward; 0 for watts of 0
+   or less.
+
+   w, h, tree, numbers   the table
+   u, v                  the point
+   tariff                hundredths of a cent per kWh, 0 to 99,999
+   cost                  receives hundredths of a cent per hour
+
+   Refusals: 1 to 6, 11. A refusal leaves cost as it was. */
+uint8_t kiln_cost(size_t w, size_t h, const uint8_t *tree, size_t tree_len, const int64_t *numbers,
+                  size_t numbers_len, size_t u, size_t v, size_t tariff, size_t *cost);
+
+/* Reads a table file. It has fields of a one-byte tag, a two-byte length (high byte first) and a body, in this order,
+   all present: tag 1, W and H, a byte each; tag 2, the tree; tags 16 to 19, the active coefficients of levels 0 to 3
+   in slice order, five bytes each, two's complement, high byte first. What is read is an acceptable table.
+
+   file          the whole file, any bytes
+   tree_out      receives the tree; as long as the tree or longer (KILN_TREE_BYTES always is), and what is past the
+                 tree is untouched
+   numbers_out   receives the coefficients; its length must be kiln_file_places(file, file_len)
+   length        receives the tree's length
+   w, h          receive the sheet's sides
+
+   Refusals: 1, 2, 4, 12 to 17, not the lowest but the first in byte order: for each field 12 for a head that is not
+   whole, 13, 14, 12 for a body that is not whole, then 1, 2 or 4 for its contents; after the last field 15, 16, 17. A
+   refusal leaves tree_out, numbers_out, length, w and h as they were. */
+uint8_t kiln_read_file(const uint8_t *file, size_t file_len, uint8_t *tree_out, size_t tree_out_len,
+                       int64_t *numbers_out, size_t numbers_out_len, size_t *length, size_t *w, size_t *h);
+
+#ifdef __cplusplus
+}
+#endif
+
+#endif

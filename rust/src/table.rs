@@ -1,0 +1,372 @@
+//! Tables, and the calls on them.
+use crate::place::{Point, QuarterBox};
+use crate::refusal::Refusal;
+use crate::{ffi, level_places, places, TREE_BYTES};
+
+/// An acceptable table: a sheet, the tree of its regions and its coefficients, all owned.
+///
+/// Whatever makes or changes one keeps it acceptable, and what is refused leaves it as it was. It has no state beside,
+/// so several threads may read one at a time.
+///
+/// ```
+/// use kiln::{Point, Table};
+///
+/// let table = Table::fresh(2, 1, 700)?;
+/// let figures: Vec<_> = std::thread::scope(|scope| {
+///     let readers: Vec<_> = (0..4).map(|k| scope.spawn({
+///         let table = &table;
+///         move || table.display(Point::new(64 * k, 128))
+///     })).collect();
+///     readers.into_iter().map(|reader| reader.join().unwrap()).collect()
+/// });
+/// assert_eq!(figures, [Ok(700); 4]);
+/// # Ok::<(), kiln::Refusal>(())
+/// ```
+#[derive(Clone, Debug, PartialEq, Eq)]
+pub struct Table {
+    pub(crate) w: usize,
+    pub(crate) h: usize,
+    pub(crate) tree: Vec<u8>,
+    pub(crate) numbers: Vec<i64>,
+}
+
+/// The least level under a box, and the tree nodes that were visited for it.
+///
+/// ```
+/// use kiln::{Least, QuarterBox, Table};
+///
+/// // A tree of one leaf has one node to visit.
+/// let least = Table::fresh(1, 1, 0)?.least_level(QuarterBox::new(1, 1, 2, 2))?;
+/// assert_eq!(least, Least { level: 0, visited: 1 });
+/// # Ok::<(), kiln::Refusal>(())
+/// ```
+#[derive(Clone, Copy, Debug, PartialEq, Eq, Hash)]
+pub struct Least {
+    /// The least level, 0 to 3.
+    pub level: u8,
+    /// The root, and each child of a visited split whose square shares area with the box.
+    pub visited: usize,
+}
+
+impl Table {
+    /// A fresh table of `w` by `h` cells: no regions, all level 0 coefficients `number` watts.
+    ///
+    /// Refused: sides that are not 1 to 8, a number beyond 32,000 in size.
+    ///
+    /// ```
+    /// use kiln::{Point, Refusal, Table, DENOMINATOR};
+    ///
+    /// let table = Table::fresh(8, 4, 32_000)?;
+    /// assert_eq!(table.tree(), [0]);
+    /// assert_eq!(table.exact(Point::new(1_024, 511))?, 32_000 * DENOMINATOR);
+    /// assert_eq!(Table::fresh(8, 0, 1), Err(Refusal::Side));
+    /// assert_eq!(Table::fresh(8, 4, -32_001), Err(Refusal::NumberLimit));
+    /// # Ok::<(), Refusal>(())
+    /// ```
+    pub fn fresh(w: usize, h: usize, number: i64) -> Result<Table, Refusal> {
+        let (mut tree, mut numbers) = (vec![0; 1], vec![0; places(w, h)]);
+        let length = ffi::fresh(w, h, number, &mut tree, &mut numbers)?;
+        tree.truncate(length);
+        Ok(Table { w, h, tree, numbers })
+    }
+
+    /// The table of a table file.
+    ///
+    /// Refused: a file that is cut short, has another tag or length than the one due, goes on after its last field, or
+    /// has sides, a tree or coefficients that no acceptable table has; the first of these in byte order.
+    ///
+    /// ```
+    /// use kiln::{Point, Refusal, Table, DENOMINATOR};
+    ///
+    /// // Columns of -1,000, 0, 1,000 and 2,000 watts on a sheet of 1 by 1.
+    /// let mut file = std::fs::read("../tables/bench-s.table").unwrap();
+    /// let table = Table::from_file(&file)?;
+    /// assert_eq!((table.width(), table.height(), table.tree()), (1, 1, &[0][..]));
+    /// assert_eq!(table.exact(Point::new(64, 5))?, 500 * DENOMINATOR);
+    /// // The corners that the corner program prints for it.
+    /// assert_eq!(table.display(Point::new(0, 128))?, 0);
+    /// assert_eq!(table.display(Point::new(128, 128))?, 1_000);
+    ///
+    /// let whole = file.len();
+    /// assert!((0..whole).all(|cut| Table::from_file(&file[..cut]) == Err(Refusal::FileEnds)));
+    /// file.push(0);
+    /// assert_eq!(Table::from_file(&file), Err(Refusal::FileGoesOn));
+    /// file[0] = 2;
+    /// assert_eq!(Table::from_file(&file), Err(Refusal::FileTag));
+    /// # Ok::<(), Refusal>(())
+    /// ```
+    pub fn from_file(file: &[u8]) -> Result<Table, Refusal> {
+        // A file that is accepted has its sides in bytes 3 and 4. Any other is refused before the output's length is
+        // judged.
+        let places = match file {
+            [_, _, _, w, h, ..] => places(usize::from(*w), usize::from(*h)),
+            _ => 0,
+        };
+        let (mut tree, mut numbers) = (vec![0; TREE_BYTES], vec![0; places]);
+        let (length, w, h) = ffi::read_file(file, &mut tree, &mut numbers)?;
+        tree.truncate(length);
+        Ok(Table { w, h, tree, numbers })
+    }
+
+    /// The table of a sheet, a tree and coefficients, each a copy of what is given.
+    ///
+    /// Refused: whatever is not an acceptable table.
+    ///
+    /// ```
+    /// use kiln::{places, Refusal, Table};
+    ///
+    /// let zeros = vec![0; places(8, 8)];
+    /// // A tree of four equal leaves is not allowed; one leaf of level 1 fills 8 by 8 and reaches beyond 1 by 1.
+    /// assert_eq!(Table::from_parts(8, 8, &[4, 0, 0, 0, 0], &zeros), Err(Refusal::Tree));
+    /// assert_eq!(Table::from_parts(1, 1, &[1], &zeros[..places(1, 1)]), Err(Refusal::Tree));
+    /// assert!(Table::from_parts(8, 8, &[1], &zeros).is_ok());
+    /// assert_eq!(Table::from_parts(8, 8, &[1], &zeros[1..]), Err(Refusal::NumbersLength));
+    ///
+    /// let mut numbers = vec![0; places(1, 1)];
+    /// numbers[0] = 32_000;
+    /// assert!(Table::from_parts(1, 1, &[0], &numbers).is_ok());
+    /// numbers[0] = 32_001;
+    /// assert_eq!(Table::from_parts(1, 1, &[0], &numbers), Err(Refusal::CoefficientLimit));
+    /// numbers[0] = 0;
+    /// numbers[16] = 1; // level 1, which is passive
+    /// assert_eq!(Table::from_parts(1, 1, &[0], &numbers), Err(Refusal::PassiveNotZero));
+    /// ```
+    pub fn from_parts(w: usize, h: usize, tree: &[u8], numbers: &[i64]) -> Result<Table, Refusal> {
+        ffi::table_cause(w, h, tree, numbers)?;
+        Ok(Table { w, h, tree: tree.to_vec(), numbers: numbers.to_vec() })
+    }
+
+    /// The sheet's width W in cells of level 0.
+    ///
+    /// ```
+    /// assert_eq!(kiln::Table::fresh(8, 4, 0)?.width(), 8);
+    /// # Ok::<(), kiln::Refusal>(())
+    /// ```
+    pub fn width(&self) -> usize {
+        self.w
+    }
+
+    /// The sheet's height H in cells of level 0.
+    ///
+    /// ```
+    /// assert_eq!(kiln::Table::fresh(8, 4, 0)?.height(), 4);
+    /// # Ok::<(), kiln::Refusal>(())
+    /// ```
+    pub fn height(&self) -> usize {
+        self.h
+    }
+
+    /// The tree of the regions, parent first: 0 to 3 a leaf of that level, 4 a split before its four children.
+    ///
+    /// ```
+    /// use kiln::{QuarterBox, Table};
+    ///
+    /// let table = Table::fresh(1, 1, 0)?.insert(QuarterBox::new(0, 0, 4, 4), 1)?;
+    /// assert_eq!(table.tree(), [4, 4, 4, 1, 0, 0, 0, 0, 0, 0, 0, 0, 0]);
+    /// # Ok::<(), kiln::Refusal>(())
+    /// ```
+    pub fn tree(&self) -> &[u8] {
+        &self.tree
+    }
+
+    /// The coefficients, level 0 first, then 1, 2, 3; in a level j rises, within a row i rises. Those of level L are
+    /// in units of 1/64^L watt, and passive places hold 0.
+    ///
+    /// ```
+    /// use kiln::{QuarterBox, Table};
+    ///
+    /// // 700 watts at every active function: 44,800 of 1/64 watt at level 1.
+    /// let table = Table::fresh(1, 1, 700)?.insert(QuarterBox::new(0, 0, 4, 4), 1)?;
+    /// assert_eq!(table.numbers().len(), 16 + 25 + 49 + 121);
+    /// assert_eq!(table.numbers()[..16], [0; 16]);
+    /// assert_eq!(table.numbers()[16..41], [44_800; 25]);
+    /// # Ok::<(), kiln::Refusal>(())
+    /// ```
+    pub fn numbers(&self) -> &[i64] {
+        &self.numbers
+    }
+
+    /// The table with a box raised to `level`, 1 to 3, where it is lower, and the coefficients carried over: its exact
+    /// reading at every point of the sheet is that of this table.
+    ///
+    /// Refused: a box with no area or past the sheet, a level that is not 1 to 3.
+    ///
+    /// ```
+    /// use kiln::{places, Point, QuarterBox, Refusal, Table};
+    ///
+    /// let mut numbers = [-1_000, 0, 1_000, 2_000].repeat(4);
+    /// numbers.resize(places(1, 1), 0);
+    /// let table = Table::from_parts(1, 1, &[0], &numbers)?;
+    ///
+    /// let whole = QuarterBox::new(0, 0, 4, 4);
+    /// let finer = table.insert(whole, 1)?;
+    /// assert_eq!(finer.numbers()[16..41], [-32_000, 0, 32_000, 64_000, 96_000].repeat(5));
+    /// for (u, v) in (0..=128).flat_map(|u| [(u, 0), (u, 77), (u, 128)]) {
+    ///     assert_eq!(finer.exact(Point::new(u, v)), table.exact(Point::new(u, v)));
+    /// }
+    /// assert_eq!(table.insert(QuarterBox::new(0, 0, 5, 4), 1), Err(Refusal::QuarterBox));
+    /// assert_eq!(table.insert(whole, 4), Err(Refusal::Level));
+    ///
+    /// // The eastern half of 2 by 1.
+    /// let east = Table::fresh(2, 1, 700)?.insert(QuarterBox::new(4, 0, 8, 4), 1)?;
+    /// assert_eq!(east.tree(), [4, 4, 4, 0, 1, 0, 0, 0, 0, 0, 0, 0, 0]);
+    /// # Ok::<(), Refusal>(())
+    /// ```
+    pub fn insert(&self, raised: QuarterBox, level: usize) -> Result<Table, Refusal> {
+        let (mut tree, mut numbers) = (vec![0; TREE_BYTES], vec![0; self.numbers.len()]);
+        let length = ffi::insert(self, raised, level, &mut tree, &mut numbers)?;
+        tree.truncate(length);
+        Ok(Table { w: self.w, h: self.h, tree, numbers })
+    }
+
+    /// Sets the coefficient of the active function (`i`, `j`) of a level, in units of 1/64^level watt.
+    ///
+    /// Refused: a level that is not 0 to 3, a function that is passive or absent, a number beyond 32,000 × 64^level
+    /// in size.
+    ///
+    /// ```
+    /// use kiln::{Point, Refusal, Table};
+    ///
+    /// let mut table = Table::fresh(1, 1, 0)?;
+    /// table.set(0, -3, -3, 1)?;
+    /// assert_eq!(table.exact(Point::new(0, 0))?, 1 << 42);
+    /// assert_eq!(table.exact(Point::new(128, 128))?, 0);
+    /// table.set(0, -3, -3, 0)?;
+    /// table.set(0, -2, -2, 1)?;
+    /// assert_eq!(table.exact(Point::new(0, 0))?, 1 << 46);
+    ///
+    /// assert_eq!(table.set(1, 0, 0, 1), Err(Refusal::Function)); // passive
+    /// assert_eq!(table.set(0, 1, 0, 1), Err(Refusal::Function)); // i runs from -3 to 0
+    /// assert_eq!(table.set(0, 0, 0, 32_001), Err(Refusal::NumberLimit));
+    /// assert_eq!(table.set(4, 0, 0, 1), Err(Refusal::Level));
+    ///
+    /// // On 2 by 1, i goes on to 1. A row of level 0 has five places.
+    /// let mut two = Table::fresh(2, 1, 0)?;
+    /// two.set(0, 1, 0, 5)?;
+    /// assert_eq!(two.numbers()[3 * 5 + 4], 5);
+    /// # Ok::<(), Refusal>(())
+    /// ```
+    pub fn set(&mut self, level: usize, i: i64, j: i64, number: i64) -> Result<(), Refusal> {
+        ffi::set(self, level, i, j, number)
+    }
+
+    /// The exact reading at a point, in watts, as a numerator over [`DENOMINATOR`](crate::DENOMINATOR).
+    ///
+    /// Refused: a point off the sheet.
+    ///
+    /// ```
+    /// use kiln::{places, Point, Refusal, Table, DENOMINATOR};
+    ///
+    /// let mut numbers = [-1_000, 0, 1_000, 2_000].repeat(4);
+    /// numbers.resize(places(1, 1), 0);
+    /// let table = Table::from_parts(1, 1, &[0], &numbers)?;
+    /// assert_eq!(table.exact(Point::new(64, 5))?, 79_164_837_199_872_000);
+    /// assert_eq!(table.exact(Point::new(128, 5))?, 1_000 * DENOMINATOR);
+    /// assert_eq!(table.exact(Point::new(129, 5)), Err(Refusal::Point));
+    /// # Ok::<(), Refusal>(())
+    /// ```
+    pub fn exact(&self, point: Point) -> Result<i64, Refusal> {
+        ffi::exact(self, point)
+    }
+
+    /// The reading at a point as an `f64`, within 2^-30 watt of the exact one.
+    ///
+    /// Refused: a point off the sheet.
+    ///
+    /// ```
+    /// use kiln::{places, Point, Refusal, Table};
+    ///
+    /// let mut numbers = [-1_000, 0, 1_000, 2_000].repeat(4);
+    /// numbers.resize(places(1, 1), 0);
+    /// let table = Table::from_parts(1, 1, &[0], &numbers)?;
+    /// let bound = 1.0 / f64::from(1 << 30);
+    /// assert!((table.watts(Point::new(64, 5))? - 500.0).abs() <= bound);
+    /// assert_eq!(table.watts(Point::new(64, 129)), Err(Refusal::Point));
+    /// # Ok::<(), Refusal>(())
+    /// ```
+    pub fn watts(&self, point: Point) -> Result<f64, Refusal> {
+        ffi::watts(self, point)
+    }
+
+    /// The figure for the display: the exact watts rounded to the nearest whole number, halves upward.
+    ///
+    /// Refused: a point off the sheet.
+    ///
+    /// ```
+    /// use kiln::{places, Point, Table};
+    ///
+    /// // Columns that rise by one: the watts rise from the second column's at u 0 to the third's at u 128.
+    /// let halfway = |first: i64| {
+    ///     let mut numbers = [first, first + 1, first + 2, first + 3].repeat(4);
+    ///     numbers.resize(places(1, 1), 0);
+    ///     Table::from_parts(1, 1, &[0], &numbers)?.display(Point::new(64, 0))
+    /// };
+    /// assert_eq!(halfway(-2)?, 0); // from -0.5
+    /// assert_eq!(halfway(-3)?, -1); // from -1.5
+    /// assert_eq!(halfway(-1)?, 1); // from 0.5
+    /// # Ok::<(), kiln::Refusal>(())
+    /// ```
+    pub fn display(&self, point: Point) -> Result<i64, Refusal> {
+        ffi::display(self, point)
+    }
+
+    /// The cost per hour in hundredths of a cent: the display's watts times the tariff (hundredths of a cent per kWh,
+    /// 0 to 99,999) over 1,000, nearest, halves upward; 0 for watts of 0 or less.
+    ///
+    /// Refused: a point off the sheet, a tariff above 99,999.
+    ///
+    /// ```
+    /// use kiln::{Point, Refusal, Table};
+    ///
+    /// let (table, point) = (Table::fresh(1, 1, 1)?, Point::new(0, 0));
+    /// assert_eq!(table.cost(point, 1_499)?, 1);
+    /// assert_eq!(table.cost(point, 1_500)?, 2);
+    /// assert_eq!(table.cost(point, 100_000), Err(Refusal::Tariff));
+    /// assert_eq!(Table::fresh(1, 1, -1)?.cost(point, 1_500)?, 0);
+    /// # Ok::<(), Refusal>(())
+    /// ```
+    pub fn cost(&self, point: Point, tariff: usize) -> Result<usize, Refusal> {
+        ffi::cost(self, point, tariff)
+    }
+
+    /// The least level under a box, with the number of tree nodes visited.
+    ///
+    /// Refused: a box with no area or past the sheet.
+    ///
+    /// ```
+    /// use kiln::{Least, QuarterBox, Refusal, Table};
+    ///
+    /// let raised = QuarterBox::new(0, 0, 4, 4);
+    /// let one = Table::fresh(1, 1, 0)?.insert(raised, 1)?;
+    /// assert_eq!(one.least_level(raised)?, Least { level: 1, visited: 4 });
+    /// assert_eq!(one.least_level(QuarterBox::new(0, 0, 5, 4)), Err(Refusal::QuarterBox));
+    /// let two = Table::fresh(2, 1, 0)?.insert(raised, 1)?;
+    /// assert_eq!(two.least_level(QuarterBox::new(0, 0, 8, 4))?, Least { level: 0, visited: 5 });
+    /// # Ok::<(), Refusal>(())
+    /// ```
+    pub fn least_level(&self, under: QuarterBox) -> Result<Least, Refusal> {
+        ffi::least_level(self, under)
+    }
+
+    /// Which functions of a level are active, in the order of the coefficients.
+    ///
+    /// Refused: a level that is not 0 to 3.
+    ///
+    /// ```
+    /// use kiln::{places, QuarterBox, Refusal, Table};
+    ///
+    /// let count = |table: &Table, level| Ok::<usize, Refusal>(
+    ///     table.activity(level)?.into_iter().filter(|&active| active).count());
+    /// let two = Table::fresh(2, 1, 0)?.insert(QuarterBox::new(0, 0, 4, 4), 1)?;
+    /// assert_eq!((count(&two, 0)?, count(&two, 1)?), (16, 10));
+    /// let fine = Table::from_parts(8, 8, &[3], &vec![0; places(8, 8)])?;
+    /// assert_eq!(count(&fine, 3)?, 4_489);
+    /// assert_eq!(fine.activity(4), Err(Refusal::Level));
+    /// # Ok::<(), Refusal>(())
+    /// ```
+    pub fn activity(&self, level: usize) -> Result<Vec<bool>, Refusal> {
+        let mut out = vec![0; level_places(self.w, self.h, level)];
+        ffi::activity(self, level, &mut out)?;
+        Ok(out.into_iter().map(|byte| byte == 1).collect())
+    }
+}

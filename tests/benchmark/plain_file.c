@@ -1,0 +1,111 @@
+/* File reading in plain C: the file is judged whole in byte order first, then the outputs are written. */
+#include "plain_inside.h"
+
+/* A field's head is a tag and a two-byte length; the sides' field is the first, so that the tree's body is at 8. */
+enum { HEAD = 3, TAG_SIDES = 1, TAG_TREE = 2, TAG_LEVEL_0 = 16, TREE_AT = 5, TREE_BODY = 8, NUMBER_BYTES = 5 };
+
+struct file {
+  const uint8_t *bytes;
+  size_t len;
+};
+
+/* The length in the head that stands at a position. */
+static inline size_t length_at(const uint8_t *head) {
+  return (size_t)head[1] << 8 | head[2];
+}
+
+/* The field due at a position, its length between two bounds: `end` receives the position after its body. */
+static uint8_t field_at(const struct file *file, size_t at, uint8_t tag, size_t low, size_t high, size_t *end) {
+  size_t left = file->len - at;
+  if (left < HEAD) return FILE_ENDS;
+  if (file->bytes[at] != tag) return BAD_TAG;
+  size_t n = length_at(file->bytes + at);
+  if (n < low || n > high) return BAD_FIELD;
+  if (left < HEAD + n) return FILE_ENDS;
+  *end = at + HEAD + n;
+  return 0;
+}
+
+/* Five bytes, two's complement, high byte first. */
+static inline int64_t number_at(const uint8_t *at) {
+  int64_t n = (int64_t)at[0] << 32 | (int64_t)at[1] << 24 | (int64_t)at[2] << 16 | (int64_t)at[3] << 8 | at[4];
+  return n < (int64_t)1 << 39 ? n : n - ((int64_t)1 << 40);
+}
+
+/* How many functions of a level are active. */
+static size_t active_count(level_map map, size_t w, size_t h, size_t level) {
+  minima_rows minima;
+  uint8_t least[ROW];
+  size_t n = functions(w, level), rows = functions(h, level), found = 0;
+  row_minima(map, w, level, minima);
+  for (size_t b = 0; b < rows; b++) {
+    support_minima(minima, h, level, b, least);
+    for (size_t a = 0; a < n; a++) found += least[a] == level;
+  }
+  return found;
+}
+
+/* The field of a level at a position, and the limit of the coefficients in it. */
+static uint8_t judge_level(const struct file *file, size_t at, level_map map, size_t w, size_t h, size_t level,
+                           size_t *end) {
+  size_t count = active_count(map, w, h, level), n = NUMBER_BYTES * count;
+  uint8_t cause = field_at(file, at, (uint8_t)(TAG_LEVEL_0 + level), n, n, end);
+  if (cause) return cause;
+  const uint8_t *body = file->bytes + at + HEAD;
+  for (size_t k = 0; k < count; k++)
+    if (past_limit(number_at(body + NUMBER_BYTES * k), level)) return OVER_LIMIT;
+  return 0;
+}
+
+/* All fields in byte order: the map of levels, and the positions after the tree's field and after the last. */
+static uint8_t judge(const struct file *file, level_map map, size_t *tree_end, size_t *last) {
+  uint8_t cause = field_at(file, 0, TAG_SIDES, 2, 2, last);
+  if (cause) return cause;
+  size_t w = file->bytes[HEAD], h = file->bytes[HEAD + 1];
+  if (!good_sides(w, h)) return BAD_SIDE;
+  if ((cause = field_at(file, TREE_AT, TAG_TREE, 1, TREE_MAX, tree_end))) return cause;
+  if ((cause = regions(w, h, file->bytes + TREE_BODY, *tree_end - TREE_BODY, map))) return cause;
+  *last = *tree_end;
+  for (size_t level = 0; level < LEVELS; level++)
+    if ((cause = judge_level(file, *last, map, w, h, level, last))) return cause;
+  return 0;
+}
+
+/* A level's part of the coefficients: the active ones take the body's numbers in slice order, the others 0. */
+static void load_level(const uint8_t *body, level_map map, size_t w, size_t h, size_t level, int64_t *out) {
+  minima_rows minima;
+  uint8_t least[ROW];
+  size_t n = functions(w, level), rows = functions(h, level);
+  row_minima(map, w, level, minima);
+  for (size_t b = 0; b < rows; b++, out += n) {
+    support_minima(minima, h, level, b, least);
+    for (size_t a = 0; a < n; a++) {
+      out[a] = 0;
+      if (least[a] != level) continue;
+      out[a] = number_at(body);
+      body += NUMBER_BYTES;
+    }
+  }
+}
+
+uint8_t plain_read_file(const uint8_t *bytes, size_t len, uint8_t *tree_out, size_t tree_out_len, int64_t *numbers_out,
+                        size_t numbers_out_len, size_t *length, size_t *w, size_t *h) {
+  struct file file = {bytes, len};
+  level_map map;
+  size_t tree_end, last;
+  uint8_t cause = judge(&file, map, &tree_end, &last);
+  if (cause) return cause;
+  size_t wide = bytes[HEAD], high = bytes[HEAD + 1], n = tree_end - TREE_BODY;
+  if (last < len) return BYTES_AFTER;
+  if (numbers_out_len != start(wide, high, LEVELS)) return BAD_OUTPUT;
+  if (tree_out_len < n) return TREE_OUTPUT_SHORT;
+  memcpy(tree_out, bytes + TREE_BODY, n);
+  for (size_t level = 0, at = tree_end; level < LEVELS; level++) {
+    load_level(bytes + at + HEAD, map, wide, high, level, numbers_out + start(wide, high, level));
+    at += HEAD + length_at(bytes + at);
+  }
+  *length = n;
+  *w = wide;
+  *h = high;
+  return 0;
+}

@@ -1,0 +1,74 @@
+"""Runs the corner program on sample, generated and damaged files, with expected output made by the evaluator.
+
+Run as: python3 tests/corners/run.py
+"""
+from __future__ import annotations
+
+import subprocess
+import sys
+from pathlib import Path
+from random import Random
+from typing import List
+
+sys.dont_write_bytecode = True
+ROOT = Path(__file__).resolve().parents[2]
+sys.path.insert(0, str(ROOT / "tests/evaluator"))
+
+import calls
+import samples
+import tablefile
+from make_tables import TABLES
+
+PROGRAM = ROOT / "target/bin/corners"
+HELD = 65_536
+
+
+def build() -> None:
+    subprocess.run(["rt", "check", "corners"], cwd=ROOT, check=True, stdout=subprocess.DEVNULL)
+
+
+def printed(file: bytes) -> List[str]:
+    run = subprocess.run([str(PROGRAM)], input=file, capture_output=True, check=True)
+    return run.stdout.decode().split("\n")
+
+
+def file_of(t: samples.Table) -> bytes:
+    return tablefile.write_file(t.w, t.h, t.tree, t.coefficients)
+
+
+def generated() -> List[bytes]:
+    """Files of a dozen tables and more, whole and damaged, and input longer than any file."""
+    rng = Random(11)
+    files = [file_of(samples.random_table(rng, rng.randint(1, 8), rng.randint(1, 8))) for _ in range(16)]
+    small = TABLES["bench-s-level-1"]
+    files += [small[:n] for n in range(0, len(small), 7)] + [small + b"\0", small + bytes(10), bytes([1]) + small]
+    files += [files[0] + bytes(HELD), bytes(HELD), bytes(3 * HELD), small + bytes(2 * HELD)]
+    files += [bytes([1, 0, 2, w, h]) + small[5:] for w, h in ((0, 1), (9, 1), (1, 255), (2, 1))]
+    return files
+
+
+def largest() -> bytes:
+    whole = tuple((3,) * 32 for _ in range(32))
+    return file_of(samples.table_of(Random(3), 8, 8, whole))
+
+
+def main() -> int:
+    build()
+    faults = 0
+    for name, file in TABLES.items():
+        if (ROOT / "tables" / f"{name}.table").read_bytes() != file:
+            faults += 1
+            print(f"tables/{name}.table is not what make_tables.py makes")
+    files = list(TABLES.values()) + generated() + [largest()]
+    for at, file in enumerate(files):
+        want = calls.corner_lines(file) + [""]
+        got = printed(file)
+        if got != want:
+            faults += 1
+            print(f"file {at} of {len(file)} bytes: prints {got[:5]}, should print {want[:5]}")
+    print(f"corners: {len(files)} files, {faults} faults")
+    return 1 if faults else 0
+
+
+if __name__ == "__main__":
+    sys.exit(main())

@@ -1,0 +1,140 @@
+/* Makes the calls of include/kiln.h that take or make a table, on document 01's bench sheet, refused ones included.
+   Prints a line for each thing that is not as the bench sheet says, and a count at the end. */
+#include "kiln.h"
+
+#include <math.h>
+#include <stdio.h>
+#include <string.h>
+
+static int made, wrong;
+
+static void held(int good, const char *words) {
+  made++;
+  if (good) return;
+  wrong++;
+  printf("not held: %s\n", words);
+}
+#define HELD(condition) held(condition, #condition)
+
+enum { ONE = 211, FINE = 25 };  /* the places of 1 by 1, and of its level 1 */
+static const int64_t columns[4] = {-1000, 0, 1000, 2000}, fine_columns[5] = {-32000, 0, 32000, 64000, 96000};
+static const uint8_t flat[1] = {0}, split[5] = {4, 0, 0, 0, 0}, whole_1[1] = {1}, whole_3[1] = {3};
+static const uint8_t level_1[13] = {4, 4, 4, 1};
+
+static int64_t s[ONE], fine[ONE], many[KILN_PLACES], more[KILN_PLACES];
+static uint8_t tree[KILN_TREE_BYTES], bytes[KILN_PLACES];
+static uint8_t level;
+static size_t length, visited, cost;
+static int64_t numerator, figure;
+static double watts;
+
+static size_t ones(size_t n) {
+  size_t sum = 0;
+  for (size_t k = 0; k < n; k++) sum += bytes[k];
+  return sum;
+}
+
+/* "S is 1 by 1 with level 0 columns -1,000, 0, 1,000, 2,000 (i = -3 to 0), equal in all rows." */
+static void sheet_s(void) {
+  HELD(kiln_places(1, 1) == ONE && kiln_level_places(1, 1, 1) == FINE);
+  for (size_t k = 0; k < 16; k++) s[k] = columns[k % 4];
+  HELD(kiln_table_cause(1, 1, flat, 1, s, ONE) == KILN_DONE);
+  HELD(kiln_exact(1, 1, flat, 1, s, ONE, 64, 5, &numerator) == KILN_DONE);
+  HELD(numerator == 500 * KILN_DENOMINATOR && numerator == INT64_C(79164837199872000));
+  HELD(kiln_watts(1, 1, flat, 1, s, ONE, 64, 5, &watts) == KILN_DONE && fabs(watts - 500) <= ldexp(1, -30));
+  HELD(kiln_display(1, 1, flat, 1, s, ONE, 128, 0, &figure) == KILN_DONE && figure == 1000);
+  HELD(kiln_display(1, 1, flat, 1, s, ONE, 129, 0, &figure) == KILN_POINT && figure == 1000);
+  HELD(kiln_exact(1, 1, flat, 1, s, ONE, 0, 129, &numerator) == KILN_POINT && numerator == 500 * KILN_DENOMINATOR);
+}
+
+/* "S, level 1 box 0,0 to 4,4: tree 4 4 4 1 and nine 0; 25 active", "least level 1, 4 nodes". */
+static void box_inserted(void) {
+  memset(tree, 9, sizeof tree);
+  HELD(kiln_insert(1, 1, flat, 1, s, ONE, 0, 0, 5, 4, 1, tree, sizeof tree, fine, ONE, &length) == KILN_BOX);
+  HELD(kiln_insert(1, 1, flat, 1, s, ONE, 0, 0, 4, 4, 4, tree, sizeof tree, fine, ONE, &length) == KILN_LEVEL);
+  HELD(kiln_insert(1, 1, flat, 1, s, ONE, 0, 0, 4, 4, 1, tree, sizeof tree, fine, 210, &length) == KILN_OUTPUT_LENGTH);
+  HELD(kiln_insert(1, 1, flat, 1, s, ONE, 0, 0, 4, 4, 1, tree, 12, fine, ONE, &length) == KILN_TREE_OUTPUT_SHORT);
+  HELD(length == 0 && tree[0] == 9 && fine[16] == 0);
+  HELD(kiln_insert(1, 1, flat, 1, s, ONE, 0, 0, 4, 4, 1, tree, sizeof tree, fine, ONE, &length) == KILN_DONE);
+  HELD(length == 13 && !memcmp(tree, level_1, 13) && tree[13] == 9);
+  int same = 1;
+  for (size_t k = 0; k < FINE; k++) same &= fine[16 + k] == fine_columns[k % 5];
+  HELD(same && fine[0] == 0 && fine[15] == 0 && fine[41] == 0 && fine[ONE - 1] == 0);
+  HELD(kiln_activity(1, 1, tree, length, 1, bytes, FINE) == KILN_DONE && ones(FINE) == 25);
+  HELD(kiln_exact(1, 1, tree, length, fine, ONE, 64, 5, &numerator) == KILN_DONE);
+  HELD(numerator == 500 * KILN_DENOMINATOR);
+  HELD(kiln_least_level(1, 1, tree, length, 0, 0, 4, 4, &level, &visited) == KILN_DONE && level == 1 && visited == 4);
+  HELD(kiln_least_level(1, 1, tree, length, 0, 0, 5, 4, &level, &visited) == KILN_BOX && level == 1 && visited == 4);
+  HELD(kiln_least_level(2, 1, tree, length, 0, 0, 8, 4, &level, &visited) == KILN_DONE && level == 0 && visited == 5);
+  HELD(kiln_activity(2, 1, tree, length, 0, bytes, 20) == KILN_DONE && ones(20) == 16);
+  HELD(kiln_activity(2, 1, tree, length, 1, bytes, 35) == KILN_DONE && ones(35) == 10);
+}
+
+/* On 2 by 1, what lies to the east: u before v, i before j. */
+static void east(void) {
+  size_t two = kiln_places(2, 1);
+  HELD(kiln_fresh(2, 1, 700, tree, sizeof tree, many, two, &length) == KILN_DONE && length == 1);
+  HELD(kiln_set(2, 1, flat, 1, many, two, 0, 1, 0, 5) == KILN_DONE && many[19] == 5);
+  HELD(kiln_set(2, 1, flat, 1, many, two, 0, 0, 1, 5) == KILN_FUNCTION);
+  HELD(kiln_insert(2, 1, flat, 1, many, two, 4, 0, 8, 4, 1, tree, sizeof tree, more, two, &length) == KILN_DONE);
+  HELD(length == 13 && tree[3] == 0 && tree[4] == 1);
+  HELD(kiln_insert(2, 1, flat, 1, many, two, 0, 4, 4, 8, 1, tree, sizeof tree, more, two, &length) == KILN_BOX);
+  HELD(kiln_watts(2, 1, flat, 1, many, two, 256, 128, &watts) == KILN_DONE && watts > 0 && watts < 700);
+  HELD(kiln_cost(2, 1, flat, 1, many, two, 128, 256, 1500, &cost) == KILN_POINT);
+}
+
+/* "only (-3, -3) is 1: at (0, 0) 2^42", "Only (-2, -2) is 1: at (0, 0) 2^46"; 32,000 accepted and 32,001 not. */
+static void coefficients_set(void) {
+  HELD(kiln_fresh(1, 1, 0, tree, 1, many, ONE, &length) == KILN_DONE && length == 1 && tree[0] == 0);
+  HELD(kiln_set(1, 1, flat, 1, many, ONE, 0, -3, -3, 1) == KILN_DONE && many[0] == 1);
+  HELD(kiln_exact(1, 1, flat, 1, many, ONE, 0, 0, &numerator) == KILN_DONE && numerator == INT64_C(1) << 42);
+  HELD(kiln_exact(1, 1, flat, 1, many, ONE, 128, 128, &numerator) == KILN_DONE && numerator == 0);
+  HELD(kiln_set(1, 1, flat, 1, many, ONE, 0, -3, -3, 0) == KILN_DONE);
+  HELD(kiln_set(1, 1, flat, 1, many, ONE, 0, -2, -2, 1) == KILN_DONE && many[5] == 1);
+  HELD(kiln_exact(1, 1, flat, 1, many, ONE, 0, 0, &numerator) == KILN_DONE && numerator == INT64_C(1) << 46);
+  HELD(kiln_set(1, 1, flat, 1, many, ONE, 0, 0, -3, 32000) == KILN_DONE && many[3] == 32000);
+  HELD(kiln_set(1, 1, flat, 1, many, ONE, 0, 0, -3, -32001) == KILN_NUMBER_LIMIT && many[3] == 32000);
+  HELD(kiln_set(1, 1, flat, 1, many, ONE, 1, 0, 0, 1) == KILN_FUNCTION);
+  HELD(kiln_set(1, 1, flat, 1, many, ONE, 0, 1, 0, 1) == KILN_FUNCTION);
+  HELD(kiln_set(1, 1, flat, 1, many, ONE, 4, 0, 0, 1) == KILN_LEVEL);
+  many[3] = 32001, many[ONE - 1] = 1;
+  HELD(kiln_table_cause(1, 1, flat, 1, many, ONE) == KILN_COEFFICIENT_LIMIT);
+  many[3] = 0;
+  HELD(kiln_table_cause(1, 1, flat, 1, many, ONE) == KILN_PASSIVE_NOT_ZERO);
+  HELD(kiln_table_cause(1, 1, flat, 1, many, ONE - 1) == KILN_NUMBERS_LENGTH);
+}
+
+/* "Fresh table of 1 watt: tariff 1,499 costs 1, tariff 1,500 costs 2." */
+static void costs(void) {
+  HELD(kiln_fresh(2, 3, 32001, tree, 1, more, kiln_places(2, 3), &length) == KILN_NUMBER_LIMIT);
+  HELD(kiln_fresh(2, 3, 1, tree, 1, more, kiln_places(2, 3), &length) == KILN_DONE);
+  HELD(kiln_cost(2, 3, tree, 1, more, kiln_places(2, 3), 7, 9, 1499, &cost) == KILN_DONE && cost == 1);
+  HELD(kiln_cost(2, 3, tree, 1, more, kiln_places(2, 3), 7, 9, 1500, &cost) == KILN_DONE && cost == 2);
+  HELD(kiln_cost(2, 3, tree, 1, more, kiln_places(2, 3), 7, 9, 100000, &cost) == KILN_TARIFF && cost == 2);
+}
+
+/* "8 by 8, tree 3: 4,489 active.", "Tree 4 0 0 0 0: 2. Tree 1 on 1 by 1: 2, on 8 by 8 accepted."; empty slices. */
+static void trees(void) {
+  HELD(kiln_places(8, 8) == KILN_PLACES && kiln_places(9, 1) == 0 && kiln_places(1, 0) == 0);
+  HELD(kiln_activity(8, 8, whole_3, 1, 3, bytes, 4489) == KILN_DONE && ones(4489) == 4489);
+  HELD(kiln_activity(8, 8, whole_3, 1, 3, bytes, 4488) == KILN_OUTPUT_LENGTH);
+  HELD(kiln_activity(8, 8, whole_3, 1, (size_t)-1, NULL, 0) == KILN_LEVEL);
+  HELD(kiln_least_level(8, 8, split, 5, 0, 0, 1, 1, &level, &visited) == KILN_TREE);
+  HELD(kiln_least_level(1, 1, whole_1, 1, 0, 0, 1, 1, &level, &visited) == KILN_TREE);
+  HELD(kiln_least_level(8, 8, whole_1, 1, 0, 0, 1, 1, &level, &visited) == KILN_DONE && level == 1 && visited == 1);
+  HELD(kiln_least_level(8, 8, NULL, 0, 0, 0, 1, 1, &level, &visited) == KILN_TREE);
+  HELD(kiln_table_cause(1, 1, flat, 1, NULL, 0) == KILN_NUMBERS_LENGTH);
+  HELD(kiln_table_cause(9, 1, NULL, 0, NULL, 0) == KILN_SIDE);
+  HELD(kiln_fresh(1, 1, 0, NULL, 0, more, ONE, &length) == KILN_TREE_OUTPUT_SHORT);
+}
+
+int main(void) {
+  sheet_s();
+  box_inserted();
+  east();
+  coefficients_set();
+  costs();
+  trees();
+  printf("calls from C: %d held, %d not\n", made - wrong, wrong);
+  return wrong != 0;
+}
