@@ -6,9 +6,10 @@
 
    Answers
      Every call returns 0 when it is done, else the refusal number of the cause that applies, the lowest where several
-     do (enum kiln_refusal). Each call below names those that it can give. What it gives beside is written through its
-     pointers. A refused call writes nothing: every buffer and every value that was lent holds what it held before.
-     Every call ends in one of the two, whatever the numbers and the contents of the buffers are.
+     do, or for a file the first in byte order (enum kiln_refusal). Each call below names those that it can give. What
+     it gives beside is written through its pointers. A refused call writes nothing: every buffer and every value that
+     was lent holds what it held before. Every call ends in one of the two, whatever the numbers and the contents of
+     the buffers are.
 
    Slices
      A buffer passes as a pointer and, right after it, a length in elements. The length is taken as said: that many

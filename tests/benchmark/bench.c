@@ -1,6 +1,7 @@
 /* Makes each call once on a table and its file, given on standard input: of the library (PREFIX kiln_) or of plain C
    (plain_). Run as `bench count` under callgrind it leaves one dump for each call, named like it; run as `bench stack`
-   it prints the bytes of stack of each call. With a call's name after that it makes that call only. */
+   it prints the bytes of stack of each call, as `bench time` the nanoseconds of each call. With a call's name after
+   that it makes that call only. */
 #include "plain.h"
 
 #include <pthread.h>
@@ -8,6 +9,7 @@
 #include <stdio.h>
 #include <stdlib.h>
 #include <string.h>
+#include <time.h>
 #include <valgrind/callgrind.h>
 
 static size_t w, h, tree_len, numbers_len, file_len;
@@ -84,6 +86,7 @@ static const struct call calls[] = {
 };
 
 enum { CALLS = sizeof calls / sizeof *calls, DEPTH = 1 << 17, UNUSED = 0xA5 };
+enum { ROUNDS = 7, ROUND_NANOSECONDS = 3000000 };
 static _Alignas(4096) uint8_t room[DEPTH];
 
 struct job {
@@ -121,6 +124,28 @@ __attribute__((noipa)) static void count(const struct call *call) {
   CALLGRIND_DUMP_STATS_AT(call->name);
 }
 
+static double now(void) {
+  struct timespec at;
+  clock_gettime(CLOCK_MONOTONIC, &at);
+  return 1e9 * (double)at.tv_sec + (double)at.tv_nsec;
+}
+
+/* The nanoseconds of one call, made over and over for some milliseconds: the least of several such rounds. */
+static double nanoseconds(const struct call *call) {
+  double least = 1e18;
+  for (int round = 0; round < ROUNDS; round++) {
+    double start = now(), spent = 0;
+    long made = 0;
+    for (long batch = 1; spent < ROUND_NANOSECONDS; batch *= 2) {
+      for (long k = 0; k < batch; k++) call->make();
+      made += batch;
+      spent = now() - start;
+    }
+    if (spent / (double)made < least) least = spent / (double)made;
+  }
+  return least;
+}
+
 /* Whether a call is to be made: each where none is named. */
 static bool asked(const struct call *call, const char *name) {
   return !name || call->make == nothing || !strcmp(call->name, name);
@@ -152,6 +177,9 @@ int main(int argc, char **argv) {
   if (!strcmp(argv[1], "stack"))
     for (int k = 0; k < CALLS; k++)
       if (asked(&calls[k], name)) printf("%s %zu\n", calls[k].name, depth(&calls[k]));
+  if (!strcmp(argv[1], "time"))
+    for (int k = 0; k < CALLS; k++)
+      if (asked(&calls[k], name)) printf("%s %.1f\n", calls[k].name, nanoseconds(&calls[k]));
   if (!strcmp(argv[1], "count"))
     for (int k = 0; k < CALLS; k++)
       if (asked(&calls[k], name)) count(&calls[k]);

@@ -15,7 +15,7 @@ HERE = Path(__file__).resolve().parent
 sys.path.insert(0, str(HERE.parent / "differential"))
 
 import run as differential
-from library import ROOT, Library
+from library import ROOT, Inside, Library
 
 
 def main() -> int:
@@ -25,7 +25,8 @@ def main() -> int:
         shared = f"{room}/libplain.so"
         flags = ["-O2", "-Wall", "-Wextra", "-Werror", "-shared", "-fPIC"]
         subprocess.run(["gcc", *flags, "-o", shared, *map(str, HERE.glob("plain_*.c"))], check=True)
-        return differential.hold(Library(ctypes.CDLL(shared), "plain_"), "plain C", f"python3 {script}", asked)
+        lib = Library(Inside(ctypes.CDLL(shared), "plain_"))
+        return differential.hold(lib, "plain C", f"python3 {script}", asked)
 
 
 if __name__ == "__main__":

@@ -23,6 +23,8 @@ static size_t tree_end(const uint8_t *tree, size_t len, size_t at, size_t x, siz
 /* Causes 1 and 2. */
 static uint8_t region_cause(size_t w, size_t h, const uint8_t *tree, size_t len) {
   if (!good_sides(w, h)) return BAD_SIDE;
+  /* A tree of one leaf, the common case. */
+  if (len == 1 && (tree[0] == 0 || (tree[0] <= LEAF_MAX && w == 8 && h == 8))) return 0;
   return len != 0 && tree_end(tree, len, 0, 0, 0, QUARTERS, w, h) == len ? 0 : BAD_TREE;
 }
 
@@ -139,7 +141,8 @@ uint8_t plain_least_level(size_t w, size_t h, const uint8_t *tree, size_t tree_l
   uint8_t cause = region_cause(w, h, tree, tree_len);
   if (cause) return cause;
   if (bad_box(w, h, &box)) return BAD_BOX;
-  walk(tree, 0, 0, 0, QUARTERS, &box, &found);
+  if (tree[0] != SPLIT) found = (struct found){tree[0], 1};
+  else walk(tree, 0, 0, 0, QUARTERS, &box, &found);
   *level = found.least;
   *visited = found.visited;
   return 0;

@@ -1,4 +1,4 @@
-"""Counts instructions and stack of each call, of the library and of the plain C program, into docs/BENCHMARKS.md.
+"""Instructions, time and stack of each call, of the library and of the plain C program, into docs/BENCHMARKS.md.
 
 Run as: python3 tests/benchmark/run.py; a line for each bar that is not met, and exit code 1 then.
 """
@@ -27,7 +27,7 @@ READINGS = {"exact": "Exact reading", "watts": "Reading as f64", "display": "Dis
 CALLS = {"table_check": "Table check", "least_level": "Least level", "activity": "Activity", "fresh": "Fresh table",
          "set": "Set", "insert": "Insertion", **READINGS, "read_file": "File reading"}
 BEYOND = "Exact reading beyond the table check"
-SIZES = (1, 4, 8)
+SIZES, TURNS = (1, 4, 8), 3
 CORNERS_BAR = 5
 LARGEST, LARGEST_FILE = "8 by 8, fully split", "8 by 8, all of level 3"
 
@@ -48,9 +48,10 @@ Figures = Dict[str, int]
 
 
 class Measured(NamedTuple):
-    """One table's figures by call: instructions and bytes of stack."""
+    """One table's figures by call: instructions, nanoseconds and bytes of stack."""
 
     counts: Figures
+    times: Dict[str, float]
     stacks: Figures
 
 
@@ -89,7 +90,24 @@ def programs() -> Tuple[str, str]:
     return library, built("bench_plain", *PLAIN)
 
 
-def measure(program: str, text: str, *call: str) -> Measured:
+def said(program: str, what: str, text: str, *call: str) -> List[Tuple[str, float]]:
+    """What the program prints of each call, or of one."""
+    command = [program, what, *call]
+    lines = subprocess.run(command, cwd=BUILT, input=text, capture_output=True, text=True, check=True).stdout
+    return [(name, float(figure)) for name, figure in (line.split() for line in lines.splitlines())]
+
+
+def timed(programs_run: Tuple[str, str], text: str, *call: str) -> List[Dict[str, float]]:
+    """The nanoseconds of each call, by program: the least of some turns, which the programs take one by one."""
+    least: List[Dict[str, float]] = [{} for _ in programs_run]
+    for _ in range(TURNS):
+        for program, figures in zip(programs_run, least):
+            for name, figure in said(program, "time", text, *call):
+                figures[name] = min(figure, figures.get(name, figure))
+    return least
+
+
+def measure(program: str, text: str, times: Dict[str, float], *call: str) -> Measured:
     """The figures of each call, or of one."""
     counts: Figures = {}
     with tempfile.TemporaryDirectory() as room:
@@ -106,22 +124,35 @@ def measure(program: str, text: str, *call: str) -> Measured:
     counts = {name: count - nothing for name, count in counts.items()}
     if not call:
         counts[BEYOND] = counts["exact"] - counts["table_check"]
-    command = [program, "stack", *call]
-    said = subprocess.run(command, cwd=BUILT, input=text, capture_output=True, text=True, check=True).stdout
-    return Measured(counts, {name: int(n) for name, n in (line.split() for line in said.splitlines())})
+    return Measured(counts, times, {name: int(n) for name, n in said(program, "stack", text, *call)})
 
 
-def paragraphs(library: Dict[str, Measured]) -> List[str]:
+def processor() -> str:
+    """The processor's name, as the machine tells it."""
+    found = re.search(r"^model name\s*: (.*)$", Path("/proc/cpuinfo").read_text(), re.M)
+    return found.group(1).strip() if found else "an unnamed processor"
+
+
+def greatest_ratio(library: Dict[str, Measured], plain: Dict[str, Measured], figure: str) -> float:
+    """The library's figure over the C program's, the greatest over the calls and tables."""
+    return max(getattr(ours, figure)[call] / getattr(plain[name], figure)[call]
+               for name, ours in library.items() for call in CALLS if call in ours.counts)
+
+
+def paragraphs(library: Dict[str, Measured], plain: Dict[str, Measured]) -> List[str]:
     """How the figures are made and what they are held to."""
     gcc = subprocess.run(["gcc", "-dumpfullversion"], check=True, capture_output=True, text=True).stdout.strip()
     exact, insert, beyond = (library[LARGEST].counts[name] for name in ("exact", "insert", BEYOND))
     loaded = library[LARGEST_FILE].counts["read_file"]
+    in_counts, in_time = (greatest_ratio(library, plain, figure) for figure in ("counts", "times"))
     return [
         "Instructions of one call, counted by valgrind's callgrind on x86-64, so that they repeat: of the library, "
         "and of `tests/benchmark/plain_*.c`, the same checks and the same steps in plain C, built by "
-        f"gcc {gcc} -O2. In that directory `run.py` makes this page, and `check_plain.py` holds the C program to "
-        "the evaluator.",
-        f"Bars: each call at most {RATIO_BAR} times the C program; a reading of the fully split 8 by 8 table at most "
+        f"gcc {gcc} -O2. Beside them the microseconds of one call on {processor()}, the least of many rounds that "
+        "both programs made by turns; they do not repeat as the counts do, so the bars are held of the counts. In "
+        "that directory `run.py` makes this page, and `check_plain.py` holds the C program to the evaluator.",
+        f"Bars: each call at most {RATIO_BAR} times the C program (today {in_counts:.2f} in instructions, "
+        f"{in_time:.2f} in time); a reading of the fully split 8 by 8 table at most "
         f"{READING_BAR:,} instructions (aim {READING_AIM:,}; today {exact:,}), an insertion into it at most "
         f"{INSERT_BAR:,} (aim {INSERT_AIM:,}; today {insert:,}), reading the largest file at most {FILE_BAR:,} (aim "
         f"{FILE_AIM:,}; today {loaded:,}); stack at most {STACK_BAR:,} bytes a call. "
@@ -138,19 +169,26 @@ def paragraphs(library: Dict[str, Measured]) -> List[str]:
 def call_table(call: str, title: str, made: List[Tuple[str, samples.Table]], library: Dict[str, Measured],
                plain: Dict[str, Measured]) -> List[str]:
     bytes_of = "file" if call == "read_file" else "tree"
-    lines = ["", f"## {title}", "", f"| table | {bytes_of} bytes | library | C | ratio |", "|---|---|---|---|---|"]
+    head = f"| table | {bytes_of} bytes | library | C | ratio |"
+    if call != BEYOND:
+        head += " library, µs | C, µs | ratio |"
+    lines = ["", f"## {title}", "", head, "|---" * head.count(" | ") + "|---|"]
     for name, t in made:
         if call not in library[name].counts:
             continue
         ours, theirs = library[name].counts[call], plain[name].counts[call]
         size = len(tablefile.write_file(*t) if call == "read_file" else t.tree)
-        lines.append(f"| {name} | {size:,} | {ours:,} | {theirs:,} | {ours / theirs:.2f} |")
+        line = f"| {name} | {size:,} | {ours:,} | {theirs:,} | {ours / theirs:.2f} |"
+        if call != BEYOND:
+            ours, theirs = library[name].times[call], plain[name].times[call]
+            line += f" {ours / 1_000:.2f} | {theirs / 1_000:.2f} | {ours / theirs:.2f} |"
+        lines.append(line)
     return lines
 
 
 def page(made: List[Tuple[str, samples.Table]], library: Dict[str, Measured], plain: Dict[str, Measured]) -> str:
     lines = ["# Benchmarks"]
-    for words in paragraphs(library):
+    for words in paragraphs(library, plain):
         lines += ["", fill(words, 116, break_on_hyphens=False)]
     for call, title in (*CALLS.items(), (BEYOND, BEYOND)):
         lines += call_table(call, title, made, library, plain)
@@ -201,12 +239,15 @@ def missed(library: Dict[str, Measured], plain: Dict[str, Measured]) -> List[str
 
 def main() -> int:
     made = [*tables(), largest_file()]
-    library_program, plain_program = programs()
+    both = programs()
     library: Dict[str, Measured] = {}
     plain: Dict[str, Measured] = {}
     for name, t in made:
         only = ("read_file",) if name == LARGEST_FILE else ()
-        library[name], plain[name] = (measure(p, told(t), *only) for p in (library_program, plain_program))
+        text = told(t)
+        times = timed(both, text, *only)
+        library[name], plain[name] = (measure(p, text, of, *only) for p, of in zip(both, times))
+        print(f"benchmark: {name} measured", flush=True)
     (ROOT / "docs/BENCHMARKS.md").write_text(page(made, library, plain), encoding="utf-8")
     lines = missed(library, plain)
     for line in lines:

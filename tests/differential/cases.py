@@ -81,9 +81,8 @@ def box(rng: Random, w: int, h: int) -> Tuple[int, int, int, int]:
                       (0, 0, 2**32 + 4 * w, 2**32 + 4 * h)))
 
 
-def any_table(rng: Random) -> samples.Table:
-    t = table(rng)
-    return damaged(rng, t) if rng.random() < 0.4 else t
+def sometimes_damaged(rng: Random, t: samples.Table, share: float = 0.3) -> samples.Table:
+    return damaged(rng, t) if rng.random() < share else t
 
 
 def sloped_table(rng: Random) -> samples.Table:
@@ -95,7 +94,7 @@ def sloped_table(rng: Random) -> samples.Table:
 
 
 def reading_table(rng: Random) -> samples.Table:
-    return sloped_table(rng) if rng.random() < 0.2 else any_table(rng)
+    return sloped_table(rng) if rng.random() < 0.2 else table(rng)
 
 
 def _steps(rng: Random, side: int) -> int:
@@ -132,11 +131,10 @@ def setting(rng: Random, t: samples.Table) -> Tuple[int, int, int, int]:
     return level, i, j, rng.choice((0, 5, -limit, limit, limit + 1, -limit - 1, LEAST))
 
 
-def insertion_table(rng: Random, faulty: float) -> samples.Table:
-    """A table for insertions, this share of them damaged; mostly small sheets: the evaluator is slow on large ones."""
+def insertion_table(rng: Random) -> samples.Table:
+    """A table for insertions, mostly on small sheets: the evaluator is slow on large ones."""
     sides = range(1, 9) if rng.random() < 0.3 else (1, 1, 2, 3)
-    t = table_on(rng, rng.choice(sides), rng.choice(sides))
-    return damaged(rng, t) if rng.random() < faulty else t
+    return table_on(rng, rng.choice(sides), rng.choice(sides))
 
 
 def _tree_after(t: samples.Table, given: Tuple[int, int, int, int], level: int) -> int:

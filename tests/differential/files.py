@@ -3,7 +3,7 @@ from __future__ import annotations
 
 from itertools import accumulate
 from random import Random
-from typing import Callable, Dict, List, Optional, Sequence, Tuple
+from typing import Callable, Dict, Iterator, List, Optional, Sequence, Tuple
 
 import cases
 import tablefile
@@ -155,16 +155,18 @@ def lengths(rng: Random, t: samples.Table) -> Tuple[int, int]:
             rng.choice((places,) * 20 + (places + 1, places - 1, 0, total_places(rng.randint(1, 8), t.h))))
 
 
-def read_file(rng: Random, lib: Library) -> str:
-    """A file with no fault, one or two, read into outputs of any lengths."""
+def read_file(rng: Random, lib: Library) -> Iterator[str]:
+    """Files of a table, each with no fault, one or two, read into outputs of any lengths."""
     t = cases.table(rng)
-    kinds = rng.choices(IN_FIELDS + IN_BYTES, k=rng.choice((0, 0, 1, 1, 2)))
-    kinds = [any_bytes] if rng.random() < 0.03 else kinds
-    words = " and ".join(kind.__name__ for kind in kinds) or "whole"
-    return read(lib, f"{words} of {t.w} by {t.h}", damaged(rng, fields_of(t), kinds), *lengths(rng, t))
+    fields = fields_of(t)
+    for _ in range(12):
+        kinds = rng.choices(IN_FIELDS + IN_BYTES, k=rng.choice((0, 0, 1, 1, 2)))
+        kinds = [any_bytes] if rng.random() < 0.03 else kinds
+        words = " and ".join(kind.__name__ for kind in kinds) or "whole"
+        yield read(lib, f"{words} of {t.w} by {t.h}", damaged(rng, fields, kinds), *lengths(rng, t))
 
 
-CALLS: Dict[str, Callable[[Random, Library], str]] = {"read_file": read_file}
+KINDS: Dict[str, Callable[[Random, Library], Iterator[str]]] = {"read_file": read_file}
 
 
 def small() -> samples.Table:

@@ -10,8 +10,8 @@ import files
 import insertions
 from cases import samples
 from library import Library, differ, numbers, octets
+from tables import READINGS
 
-READINGS = ("exact", "watts", "display", "cost")
 FLAT, REFINED, WHOLE = [0], [4, 4, 4, 1] + [0] * 9, (0, 0, 4, 4)
 # The bench sheet's surface S on 1 by 1, and S with level 1 on the whole sheet.
 S = [-1_000, 0, 1_000, 2_000] * 4 + [0] * 195
@@ -192,13 +192,16 @@ def two_faults_of_calls(lib: Library) -> List[str]:
 
 def whole_grids(rng: Random, lib: Library) -> List[str]:
     """Lists of insertions into a 1 by 1 and a 2 by 1 table, read at every point of the grid before and after."""
-    return [insertions.list_made(rng, lib, samples.random_table(rng, w, 1, boxes=1), 6, cases.grid(w, 1))
-            for w in (1, 2)]
+    return [fault for w in (1, 2) for fault in
+            insertions.list_made(rng, lib, samples.random_table(rng, w, 1, boxes=1), 6, cases.grid(w, 1))]
 
 
-def faults(lib: Library, seed: int) -> List[str]:
-    """What is not as it should be in any fixed case; the seed draws lists of insertions and files."""
+def faults(lib: Library, seed: int, grids: bool) -> List[str]:
+    """What is not as it should be in any fixed case, whole grids among them or not; the seed draws lists of insertions
+    and files."""
     found = bench_sheet(lib) + bench_readings(lib) + bench_insertions(lib)
-    found += two_faults_of_tables(lib) + two_faults_of_calls(lib) + whole_grids(Random(seed), lib)
+    found += two_faults_of_tables(lib) + two_faults_of_calls(lib)
+    if grids:
+        found += whole_grids(Random(seed), lib)
     found += files.fixed(Random(seed), lib)
     return [fault for fault in found if fault]

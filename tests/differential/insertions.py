@@ -2,7 +2,7 @@
 from __future__ import annotations
 
 from random import Random
-from typing import Callable, Dict, List, Sequence, Tuple
+from typing import Callable, Dict, Iterator, List, Sequence, Tuple
 
 import cases
 from cases import calls, samples
@@ -34,30 +34,36 @@ def readings(lib: Library, t: samples.Table, points: Sequence[samples.Point]) ->
     return "", answers
 
 
-def list_made(rng: Random, lib: Library, t: samples.Table, count: int, points: Sequence[samples.Point]) -> str:
+def list_made(
+    rng: Random, lib: Library, t: samples.Table, count: int, points: Sequence[samples.Point]
+) -> Iterator[str]:
     """Makes a list of insertions, each of the table as it then stands, and reads the table before and after it."""
     fault, before = readings(lib, t, points)
     now = t
     for _ in range(count):
         if not fault:
             fault, now = made(lib, now, cases.insertion(rng, now))
+            yield fault
     if fault:
-        return fault
+        return
     fault, after = readings(lib, now, points)
     for point, was, reads in zip(points, before, after):
         if was != reads:
-            return f"insertions {t.w} {t.h} {t.tree} to {now.tree}: {point} read {was}, then {reads}"
-    return fault
+            fault = f"insertions {t.w} {t.h} {t.tree} to {now.tree}: {point} read {was}, then {reads}"
+    if fault:
+        yield fault
 
 
-def insert(rng: Random, lib: Library) -> str:
-    t = cases.insertion_table(rng, 0.3)
-    return made(lib, t, cases.insertion(rng, t))[0]
+def insert(rng: Random, lib: Library) -> Iterator[str]:
+    whole = cases.insertion_table(rng)
+    for _ in range(4):
+        t = cases.sometimes_damaged(rng, whole)
+        yield made(lib, t, cases.insertion(rng, t))[0]
 
 
-def insertions(rng: Random, lib: Library) -> str:
-    t = cases.insertion_table(rng, 0.03)
+def insertions(rng: Random, lib: Library) -> Iterator[str]:
+    t = cases.sometimes_damaged(rng, cases.insertion_table(rng), 0.03)
     return list_made(rng, lib, t, rng.randint(1, 6), cases.reading_points(rng, t.w, t.h))
 
 
-CALLS: Dict[str, Callable[[Random, Library], str]] = {"insert": insert, "insertions": insertions}
+KINDS: Dict[str, Callable[[Random, Library], Iterator[str]]] = {"insert": insert, "insertions": insertions}

@@ -4,9 +4,10 @@ from __future__ import annotations
 import ctypes
 import struct
 import subprocess
+import tempfile
 from array import array
 from pathlib import Path
-from typing import Dict, List, NamedTuple, Sequence, Tuple
+from typing import Callable, Dict, List, NamedTuple, Sequence, Tuple
 
 ROOT = Path(__file__).resolve().parents[2]
 MASK = (1 << 64) - 1
@@ -20,14 +21,22 @@ NUMBER_BEFORE = SIZE_BEFORE - 2**64
 WATTS_BEFORE = 0xFFF2_3456_789A_BCDE
 
 
-def build() -> ctypes.CDLL:
-    """Proves and compiles the boundary crate and links it as a shared library."""
-    subprocess.run(["rt", "staticlib", "boundary"], cwd=ROOT, check=True, stdout=subprocess.DEVNULL)
-    archive = ROOT / "target/staticlib/libboundary.a"
-    shared = ROOT / "target/staticlib/libboundary.so"
-    whole = ["-Wl,--whole-archive", str(archive), "-Wl,--no-whole-archive"]
-    subprocess.run(["gcc", "-shared", "-o", str(shared), *whole], check=True)
-    return ctypes.CDLL(str(shared))
+def archive() -> Path:
+    """The compiled library; it is proved and compiled where its sources are newer."""
+    made = ROOT / "target/staticlib/libboundary.a"
+    newest = max(one.stat().st_mtime for one in (ROOT / "crates").rglob("*"))
+    if not made.exists() or made.stat().st_mtime < newest:
+        subprocess.run(["rt", "staticlib", "boundary"], cwd=ROOT, check=True, stdout=subprocess.DEVNULL)
+    return made
+
+
+def shared() -> ctypes.CDLL:
+    """The compiled library as a shared one."""
+    with tempfile.TemporaryDirectory() as room:
+        linked = f"{room}/libboundary.so"
+        whole = ["-Wl,--whole-archive", str(archive()), "-Wl,--no-whole-archive"]
+        subprocess.run(["gcc", "-shared", "-o", linked, *whole], check=True)
+        return ctypes.CDLL(linked)
 
 
 class Lent:
@@ -44,8 +53,11 @@ class Lent:
     def pointer(self) -> ctypes.c_void_p:
         return ctypes.c_void_p(ctypes.addressof(self.whole) + GUARD)
 
+    def contents(self) -> bytes:
+        return self.whole.raw[GUARD:-GUARD]
+
     def values(self) -> List[int]:
-        return array(self.code, self.whole.raw[GUARD:-GUARD]).tolist()
+        return array(self.code, self.contents()).tolist()
 
     def guarded(self) -> bool:
         now = self.whole.raw
@@ -129,18 +141,31 @@ def differ(words: str, got: Answer, want: Tuple, *after: Tuple[Lent, Sequence[in
     return ""
 
 
-class Library:
-    """The calls under their C names, which start with a prefix, and how many were accepted and refused by kind."""
+class Inside:
+    """Makes calls in this process, of functions whose names start with a prefix."""
 
-    def __init__(self, lib: ctypes.CDLL, prefix: str = "kiln_") -> None:
+    def __init__(self, lib: ctypes.CDLL, prefix: str) -> None:
         self.lib, self.prefix = lib, prefix
+
+    def __call__(self, name: str, given: Sequence) -> int:
+        function = getattr(self.lib, self.prefix + name)
+        function.restype = ctypes.c_uint8
+        return function(*(x for one in given for x in (one.passed() if isinstance(one, Lent) else (one,))))
+
+
+class Library:
+    """The calls, made in one way, and how many were accepted and refused by kind."""
+
+    def __init__(self, make: Callable[[str, Sequence], int]) -> None:
+        self.make = make
         self.kind = ""
         self.counts: Dict[str, List[int]] = {}
 
+    def made(self) -> int:
+        return sum(map(sum, self.counts.values()))
+
     def _call(self, name: str, *given) -> Answer:
-        function = getattr(self.lib, self.prefix + name)
-        function.restype = ctypes.c_uint8
-        cause = function(*(x for one in given for x in (one.passed() if isinstance(one, Lent) else (one,))))
+        cause = self.make(name, given)
         kind = name if self.kind == name else f"{self.kind}, {name}"
         self.counts.setdefault(kind, [0, 0])[cause != 0] += 1
         return Answer(cause, [one for one in given if isinstance(one, Lent)])

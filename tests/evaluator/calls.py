@@ -6,7 +6,6 @@ after the call, by name. Buffers that were lent are never changed in place. A bo
 from __future__ import annotations
 
 from fractions import Fraction
-from functools import lru_cache
 from math import floor, isfinite
 from typing import Any, Dict, List, NamedTuple, Optional, Sequence, Tuple
 
@@ -52,15 +51,9 @@ def _sides_refused(w: int, h: int) -> bool:
     return not (side_allowed(w) and side_allowed(h))
 
 
-@lru_cache(maxsize=32)
-def _surface(w: int, h: int, tree: Tuple[int, ...]) -> Optional[Surface]:
-    levels = quadtree.level_map(tree, w, h)
-    return None if levels is None else Surface(w, h, levels)
-
-
 # The surface of a sheet and a tree that refusals 1 and 2 do not apply to.
 def surface_of(w: int, h: int, tree: Sequence[int]) -> Surface:
-    surface = _surface(w, h, tuple(tree))
+    surface = quadtree.surface_over(w, h, tuple(tree))
     if surface is None:
         raise quadtree.Damaged("the tree is not of the form of document 01")
     return surface
@@ -70,7 +63,7 @@ def surface_of(w: int, h: int, tree: Sequence[int]) -> Surface:
 def judge_regions(w: int, h: int, tree: Sequence[int]) -> Optional[int]:
     if _sides_refused(w, h):
         return 1
-    if _surface(w, h, tuple(tree)) is None:
+    if quadtree.surface_over(w, h, tuple(tree)) is None:
         return 2
     return None
 

@@ -161,6 +161,7 @@ class Surface:
         self._least: Dict[Tuple[int, int, int], int] = {}
         self._splines: Dict[Tuple[int, int, int], Dict[int, Fraction]] = {}
         self._at_point: Dict[Tuple[int, int], Dict[Tuple[int, int, int], Fraction]] = {}
+        self._active: Dict[int, List[Function]] = {}
         self._limits: Optional[List[Optional[int]]] = None
 
     # Document 01, Functions and coefficients: the functions of a level in slice order.
@@ -204,7 +205,9 @@ class Surface:
         return self.least_level(level, i, j) >= region
 
     def active_functions(self, level: int) -> List[Function]:
-        return [(i, j) for i, j in self.functions(level) if self.active(level, i, j)]
+        if level not in self._active:
+            self._active[level] = [(i, j) for i, j in self.functions(level) if self.active(level, i, j)]
+        return self._active[level]
 
     # For each place of the slice the limit of its coefficient when active, None when passive.
     def limits(self) -> List[Optional[int]]:

@@ -4,7 +4,7 @@ from __future__ import annotations
 from typing import List, NamedTuple, Optional, Sequence, Tuple, Union
 
 import tree as quadtree
-from surface import LEVELS, Surface, coefficient_limit, side_allowed
+from surface import LEVELS, coefficient_limit, side_allowed
 
 TAG_SIDES = 1
 TAG_TREE = 2
@@ -36,10 +36,9 @@ def coefficient_bytes(coefficient: int) -> bytes:
 # Document 01, The table file: the six fields 'in this order, all present', of a table that need not be acceptable
 # in its coefficients but has a tree of the given form.
 def table_fields(w: int, h: int, tree: Sequence[int], coefficients: Sequence[int]) -> List[Tuple[int, bytes]]:
-    levels = quadtree.level_map(tree, w, h)
-    if levels is None:
+    surface = quadtree.surface_over(w, h, tuple(tree))
+    if surface is None:
         raise quadtree.Damaged("the tree is not of the form of document 01")
-    surface = Surface(w, h, levels)
     fields = [(TAG_SIDES, bytes([w, h])), (TAG_TREE, bytes(tree))]
     for level in LEVELS:
         places = [surface.place(level, i, j) for i, j in surface.active_functions(level)]
@@ -101,10 +100,9 @@ def _content(file: bytes) -> Content:
         raise Refused(1)
     # 'Tag 2's length is 1 to 1,365.'
     tree = list(reader.body(TAG_TREE, 1, quadtree.GREATEST_TREE))
-    levels = quadtree.level_map(tree, w, h)
-    if levels is None:
+    surface = quadtree.surface_over(w, h, tuple(tree))
+    if surface is None:
         raise Refused(2)
-    surface = Surface(w, h, levels)
     coefficients = [0] * surface.total
     for level in LEVELS:
         functions = surface.active_functions(level)

@@ -1,9 +1,10 @@
 """Region trees of document 01: judging a byte list, its level map, the visiting rule, and the one tree of a map."""
 from __future__ import annotations
 
+from functools import lru_cache
 from typing import List, Optional, Sequence, Tuple
 
-from surface import QUARTERS_PER_CELL, TREE_SIDE, Box, LevelMap
+from surface import QUARTERS_PER_CELL, TREE_SIDE, Box, LevelMap, Surface
 
 SPLIT = 4
 GREATEST_LEVEL = 3
@@ -62,6 +63,13 @@ def level_map(tree: Sequence[int], w: int, h: int) -> Optional[LevelMap]:
     if end != len(tree):
         return None
     return tuple(tuple(row) for row in grid)
+
+
+# The surface of a sheet over a tree of the given form, None for any other byte list; the last few are kept.
+@lru_cache(maxsize=32)
+def surface_over(w: int, h: int, tree: Tuple[int, ...]) -> Optional[Surface]:
+    levels = level_map(tree, w, h)
+    return None if levels is None else Surface(w, h, levels)
 
 
 # Document 01, Regions: 'So one set of regions has one tree'; the bytes of the square at (u, v).

@@ -1,4 +1,5 @@
-"""Checks that every statement and file that docs/MAP.md names exists.
+"""Checks docs/MAP*.md: every statement and file that they name exists, no entry lacks a line, and the misreadings list
+every must-fail edit once.
 
 Run as: python3 tests/map/check_map.py
 """
@@ -7,37 +8,85 @@ from __future__ import annotations
 import re
 import sys
 from pathlib import Path
+from typing import Dict, List, Set
 
 ROOT = Path(__file__).resolve().parents[2]
 ENTRY = re.compile(r"`((?:crates|tests|docs|include)/[^`#\s]+)(?:#([^`\s]+))?`")
+# The lines that each entry of a part has; a part's title is that of its file, else that of its section.
+LINES = {
+    "The demands": ("definition", "theorem", "test", "must-fail"),
+    "Calls": ("definition", "promise", "theorem", "test", "must-fail"),
+    "Refusal numbers": ("definition", "promise", "theorem", "test", "must-fail"),
+    "Words of document 01": ("definition", "theorem"),
+    "Misreadings and wrong programs": ("must-fail", "refused by"),
+}
+REFUSALS = range(1, 18)
 
 
 def declares(text: str, name: str, kind: str) -> bool:
-    """A declaration of the name: a signature, data or record in antt, a function in Rattle."""
+    """A declaration of the name: a signature, data or record in antt, a function in Rattle or Python."""
     word = re.escape(name)
     if kind == ".antt":
         return bool(re.search(rf"^\s*(?:(?:unfoldable|abbrev|pub) )*{word}(?: \{{[^}}]*\}})? :", text, re.M)
                     or re.search(rf"^\s*(?:pub )?(?:data|record) {word}\b", text, re.M))
-    return bool(re.search(rf"\bfn {word}\b", text))
+    return bool(re.search(rf"\b{'def' if kind == '.py' else 'fn'} {word}\b", text))
 
 
-def main() -> int:
-    text = (ROOT / "docs/MAP.md").read_text(encoding="utf-8")
-    faults, entries = [], 0
+def missing(text: str) -> List[str]:
+    """Names in the map that nothing declares."""
+    faults = []
     for path, name in ENTRY.findall(text):
-        entries += 1
         file = ROOT / path
         if not file.is_file():
             faults.append(f"{path}: no such file")
         elif name and not declares(file.read_text(encoding="utf-8"), name, file.suffix):
             faults.append(f"{path}: declares no {name}")
-    edits = {str(p.relative_to(ROOT)) for p in ROOT.glob("crates/*/must-fail/*.edit")}
-    named = {path for path, _ in ENTRY.findall(text)}
-    faults += [f"{edit}: not in docs/MAP.md" for edit in sorted(edits - named)]
+    return faults
+
+
+def unlisted(misreadings: str) -> List[str]:
+    """Must-fail edits that the list of misreadings does not name once."""
+    named = [path for path, _ in ENTRY.findall(misreadings)]
+    edits = sorted(str(p.relative_to(ROOT)) for p in ROOT.glob("crates/*/must-fail/*.edit"))
+    return [f"{edit}: {named.count(edit)} times among the misreadings" for edit in edits if named.count(edit) != 1]
+
+
+def entries_of(text: str) -> Dict[str, Dict[str, Set[str]]]:
+    """For each part the lines of each entry, by the entry's first line."""
+    parts: Dict[str, Dict[str, Set[str]]] = {}
+    part: Dict[str, Set[str]] = {}
+    lines: Set[str] = set()
+    file = ""
+    for line in text.splitlines():
+        if line.startswith("#"):
+            title = line.lstrip("# ")
+            file = title if line.startswith("# ") else file
+            part = parts.setdefault(file if file in LINES else title, {})
+        elif line.startswith("- "):
+            lines = part.setdefault(line[2:], set())
+        elif line.startswith("  - "):
+            lines.add(line[4:].split(":")[0])
+    return parts
+
+
+def incomplete(text: str) -> List[str]:
+    """Entries that lack a line, and refusal numbers that have no entry."""
+    parts = entries_of(text)
+    faults = [f"{part}: {entry}: no {line}" for part, due in LINES.items() for entry, lines in parts[part].items()
+              for line in due if line not in lines]
+    told = {int(entry.split(":")[0]) for entry in parts["Refusal numbers"]}
+    return faults + [f"refusal {number}: not in the map" for number in REFUSALS if number not in told]
+
+
+def main() -> int:
+    text = "".join(one.read_text(encoding="utf-8") for one in sorted((ROOT / "docs").glob("MAP*.md")))
+    misreadings = (ROOT / "docs/MAP-MISREADINGS.md").read_text(encoding="utf-8")
+    faults = missing(text) + unlisted(misreadings) + incomplete(text)
     for fault in faults:
         print(fault)
-    print(f"map: {entries} entries, {len(faults)} faults")
-    return 1 if faults or not entries else 0
+    count = len(ENTRY.findall(text))
+    print(f"map: {count} names, {len(faults)} faults")
+    return 1 if faults or not count else 0
 
 
 if __name__ == "__main__":

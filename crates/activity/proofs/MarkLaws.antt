@@ -3,7 +3,7 @@ use mathlib.Core.Path.{_≡_, refl, sym, ap, ap₂, _∙_}
 use mathlib.Core.Bool.{cond}
 use mathlib.Core.List.{List, [], _∷_, _++_, append-assoc, append-nil}
 use Prim.Native.Nat.{ℕ, zero, suc, _+_, _*_, _≤_, _<_}
-use native.Mathlib.Nat.{add-zero, zero-add, zero-mul, suc-mul}
+use native.Mathlib.Nat.{add-zero, zero-add, zero-mul, suc-mul, mul-comm}
 use native.Mathlib.Numerals.{add-one}
 use native.Mathlib.Omega.{arith}
 use lib.Dec.{eqb}
@@ -69,9 +69,16 @@ module _ {A : Type 0} where
   unfolding rowsFrom
   rows-none n f l = ap (λ k. drop k l) (sym (zero-mul n))
 
-  pub rows-all : (n b : ℕ) (f : ℕ → ℕ → A) (l : List A) → b * n ≡ length l → rowsWritten n b f l ≡ grid n b f
-  rows-all n b f l h =
-      ap (λ t. grid n b f ++ t) (ap (λ k. drop k l) h ∙ drop-length l) ∙ append-nil (grid n b f)
+  -- all m rows are written
+  pub rows-all : {n m N M : ℕ} {out : List A} (b : ℕ) (f : ℕ → ℕ → A) (l : List A) → out ≡ rowsWritten n b f l
+      → b ≤ m → m ≤ b → n ≡ N → m ≡ M → length l ≡ N * M → out ≡ grid N M f
+  rows-all {n} {m} {N} {M} b f l e low high columns rows size =
+      let last : b ≡ m = omega arith in
+      let whole : b * n ≡ length l = ap₂ _*_ (last ∙ rows) columns ∙ mul-comm M N ∙ sym size in
+      e
+      ∙ ap (λ t. grid n b f ++ t) (ap (λ k. drop k l) whole ∙ drop-length l)
+      ∙ append-nil (grid n b f)
+      ∙ ap₂ (λ n b. grid n b f) columns (last ∙ rows)
 
   -- row b is written in place of the k elements that stand there
   pub rows-next : (n b k : ℕ) (f : ℕ → ℕ → A) (l out row : List A) → out ≡ rowsWritten n b f l → k ≡ n

@@ -1,13 +1,8 @@
--- Laws of causes, answers and lent buffers that the calls share.
+-- Laws of answers and lent buffers that the calls share.
 use mathlib.Core.Path.{_≡_, refl, ap, subst, _∙_}
 use Prim.Native.Nat.{ℕ, zero, suc}
 use Rattle.surface.specs.Table.{_orElse_}
 use Rattle.surface.specs.Calls.{Answer, refused, gives, answer, afterwards}
-
--- the first cause, where it applies
-pub first : (r n : ℕ) → (r ≡ 0 → ⊥) → r ≡ r orElse n
-first zero n h = absurd (h refl)
-first (suc r) n h = refl
 
 -- a cause is the refusal, and the buffer keeps its contents
 pub refusal : {A : Type 0} (n : ℕ) (a : A) → (n ≡ 0 → ⊥) → refused n ≡ answer n a

@@ -5,7 +5,7 @@ use Prim.Native.Nat.{ℕ, _^_}
 use lib.IntN.{ℤ}
 use lib.Ieee.{Float}
 use Rattle.surface.specs.Truncation.{D}
-use Rattle.surface.specs.Calls.{Answer, refused, gives, LeastLevel, Written}
+use Rattle.surface.specs.Calls.{Answer, refused, gives, LeastLevel, Written, Done}
 use Rattle.surface.specs.FloatReading.{Near}
 use Rattle.surface.specs.TableFile.{FileResult}
 
@@ -19,28 +19,39 @@ abbrev pub orGiven : {A B : Type 0} → (A → B) → Answer A → B → B
 orGiven f (refused n) old = old
 orGiven f (gives a) old = f a
 
+-- a number that the call gives, as it is
+abbrev pub itself : {A : Type 0} → A → A
+itself n = n
+
+-- "For every input a call gives its full result, or one refusal number from document 01 and writes nothing", of a call
+-- that gives one number: its code, and what stands at the parameter that receives the number, before and after
+abbrev pub NumberTold : {A : Type 0} → Answer A → ℕ → A → A → Type 0
+NumberTold o code before after = (code ≡ codeOf o) × (after ≡ orGiven itself o before)
+
 abbrev pub levelOf : LeastLevel → ℕ
 levelOf a = a .level
 
 abbrev pub visitedOf : LeastLevel → ℕ
 visitedOf a = a .visited
 
--- a number that the call gives, as it is
-abbrev pub itself : {A : Type 0} → A → A
-itself n = n
+-- the same of a least level, whose parameters receive the level and the number of nodes visited
+abbrev pub LeastTold : Answer LeastLevel → ℕ → ℕ → ℕ → ℕ → ℕ → Type 0
+LeastTold o code level₀ level visited₀ visited =
+    (code ≡ codeOf o) × (level ≡ orGiven levelOf o level₀) × (visited ≡ orGiven visitedOf o visited₀)
 
 -- the f64 that stands at a parameter afterwards: what stood there, or watts within 2^-30 of the exact reading
 abbrev pub WattsAfter : Answer ℤ → Float → Float → Type 0
 WattsAfter (refused n) old new = new ≡ old
 WattsAfter (gives n) old new = Near (2 ^ 30) D n new
 
--- what a call that writes a table leaves: its code, both outputs, and the parameter that receives the tree's length
-abbrev pub TableWritten : Written ℕ → ℕ → List ℕ → List ℤ → ℕ → ℕ → Type 0
-TableWritten o code tree numbers before after =
-    (code ≡ codeOf (o .result))
-    × (tree ≡ o .tree)
-    × (numbers ≡ o .numbers)
-    × (after ≡ orGiven itself (o .result) before)
+-- what a call that writes one slice leaves: its code and the slice
+abbrev pub SliceWritten : {A : Type 0} → Done A → ℕ → List A → Type 0
+SliceWritten o code slice = (code ≡ codeOf (o .result)) × (slice ≡ o .after)
+
+-- what a call that writes a table leaves: its code, the parameter that receives the tree's length, and both outputs
+abbrev pub TableWritten : Written ℕ → ℕ → ℕ → ℕ → List ℕ → List ℤ → Type 0
+TableWritten o code treeLength₀ treeLength tree numbers =
+    NumberTold (o .result) code treeLength₀ treeLength × (tree ≡ o .tree) × (numbers ≡ o .numbers)
 
 abbrev pub lengthOf : FileResult → ℕ
 lengthOf r = r .treeLength
@@ -51,7 +62,15 @@ wOf r = r .W
 abbrev pub hOf : FileResult → ℕ
 hOf r = r .H
 
--- what file reading leaves at its three parameters: the tree's length, W and H
-abbrev pub FileTold : Answer FileResult → ℕ → ℕ → ℕ → ℕ → ℕ → ℕ → Type 0
-FileTold o length length₀ w w₀ h h₀ =
-    (length ≡ orGiven lengthOf o length₀) × (w ≡ orGiven wOf o w₀) × (h ≡ orGiven hOf o h₀)
+-- file reading's code, and what it leaves at its three parameters: the tree's length, W and H
+abbrev pub FileTold : Answer FileResult → ℕ → ℕ → ℕ → ℕ → ℕ → ℕ → ℕ → Type 0
+FileTold o code treeLength₀ treeLength w₀ w h₀ h =
+    (code ≡ codeOf o)
+    × (treeLength ≡ orGiven lengthOf o treeLength₀)
+    × (w ≡ orGiven wOf o w₀)
+    × (h ≡ orGiven hOf o h₀)
+
+-- what file reading leaves: the same, and both outputs
+abbrev pub FileWritten : Written FileResult → ℕ → ℕ → ℕ → ℕ → ℕ → ℕ → ℕ → List ℕ → List ℤ → Type 0
+FileWritten o code treeLength₀ treeLength w₀ w h₀ h tree numbers =
+    FileTold (o .result) code treeLength₀ treeLength w₀ w h₀ h × (tree ≡ o .tree) × (numbers ≡ o .numbers)

@@ -2,13 +2,12 @@
 // passes as a pointer and a length. What a call gives beside is written through its last parameters, and nothing is
 // written where it refuses. Buffers that are lent to one call must not overlap.
 ghost use mathlib.Core.Path.{_≡_};
-ghost use Prim.Native.Nat.{ℕ};
 ghost use Rattle.surface.specs.Table.{tableCause};
 ghost use Rattle.surface.specs.Calls.{leastOutcome, activityOutcome, freshOutcome, insertOutcome, setOutcome};
 ghost use Rattle.surface.specs.Calls.{exactOutcome, displayOutcome, costOutcome};
 ghost use Rattle.surface.specs.TableFile.{fileOutcome};
-ghost use Rattle.boundary.specs.Codes.{codeOf, orGiven, levelOf, visitedOf, itself, WattsAfter};
-ghost use Rattle.boundary.specs.Codes.{TableWritten, FileTold};
+ghost use Rattle.boundary.specs.Codes.{codeOf, NumberTold, LeastTold, WattsAfter};
+ghost use Rattle.boundary.specs.Codes.{SliceWritten, TableWritten, FileWritten};
 
 // The least level under a box: `level` receives it, `visited` the number of tree nodes visited.
 #[no_mangle]
@@ -23,14 +22,9 @@ pub extern "C" fn kiln_least_level(
     level: &mut u8,
     visited: &mut usize,
 ) -> u8
-    ensures { λ r. ⌜ (r
-        ≡ codeOf (leastOutcome w h (now (tree .entry)) (record { u0 = u0; v0 = v0; u1 = u1; v1 = v1 })))
-        × (now (level .exit)
-        ≡ orGiven levelOf (leastOutcome w h (now (tree .entry)) (record { u0 = u0; v0 = v0; u1 = u1; v1 = v1 }))
-        (now (level .entry)))
-        × (now (visited .exit)
-        ≡ orGiven visitedOf (leastOutcome w h (now (tree .entry)) (record { u0 = u0; v0 = v0; u1 = u1; v1 = v1 }))
-        (now (visited .entry))) ⌝ }
+    ensures { λ r. ⌜ LeastTold
+        (leastOutcome w h (now (tree .entry)) (record { u0 = u0; v0 = v0; u1 = u1; v1 = v1 })) r
+        (now (level .entry)) (now (level .exit)) (now (visited .entry)) (now (visited .exit)) ⌝ }
 {
     let r = query::least_level(w, h, tree, u0, v0, u1, v1);
     match r {
@@ -49,8 +43,8 @@ pub extern "C" fn kiln_least_level(
 // The activity of a level: `out` receives one byte for each place, 1 where the function is active, else 0.
 #[no_mangle]
 pub extern "C" fn kiln_activity(w: usize, h: usize, tree: &[u8], level: usize, out: &mut [u8]) -> u8
-    ensures { λ r. ⌜ (r ≡ codeOf ((activityOutcome w h (now (tree .entry)) level (now (out .entry))) .result))
-        × (now (out .exit) ≡ (activityOutcome w h (now (tree .entry)) level (now (out .entry))) .after) ⌝ }
+    ensures { λ r. ⌜ SliceWritten (activityOutcome w h (now (tree .entry)) level (now (out .entry))) r
+        (now (out .exit)) ⌝ }
 {
     let r = query::activity_of(w, h, tree, level, out);
     match r {
@@ -59,7 +53,7 @@ pub extern "C" fn kiln_activity(w: usize, h: usize, tree: &[u8], level: usize, o
     }
 }
 
-// Writes a fresh table; `length` receives the tree's length.
+// Writes a fresh table; `tree_length` receives the tree's length.
 #[no_mangle]
 pub extern "C" fn kiln_fresh(
     w: usize,
@@ -67,23 +61,24 @@ pub extern "C" fn kiln_fresh(
     number: i64,
     tree_out: &mut [u8],
     numbers_out: &mut [i64],
-    length: &mut usize,
+    tree_length: &mut usize,
 ) -> u8
     ensures { λ r. ⌜ TableWritten
         (freshOutcome w h number (now («tree_out» .entry)) (now («numbers_out» .entry))) r
-        (now («tree_out» .exit)) (now («numbers_out» .exit)) (now (length .entry)) (now (length .exit)) ⌝ }
+        (now («tree_length» .entry)) (now («tree_length» .exit))
+        (now («tree_out» .exit)) (now («numbers_out» .exit)) ⌝ }
 {
     let r = edit::fresh(w, h, number, tree_out, numbers_out);
     match r {
         answers::Length::Bytes(n) => {
-            *length = n;
+            *tree_length = n;
             0
         }
         answers::Length::Refused(n) => n,
     }
 }
 
-// Inserts a box; `length` receives the new tree's length.
+// Inserts a box; `tree_length` receives the new tree's length.
 #[no_mangle]
 pub extern "C" fn kiln_insert(
     w: usize,
@@ -97,12 +92,13 @@ pub extern "C" fn kiln_insert(
     level: usize,
     tree_out: &mut [u8],
     numbers_out: &mut [i64],
-    length: &mut usize,
+    tree_length: &mut usize,
 ) -> u8
     ensures { λ r. ⌜ TableWritten
         (insertOutcome w h (now (tree .entry)) (now (numbers .entry)) (record { u0 = u0; v0 = v0; u1 = u1; v1 = v1 })
         level (now («tree_out» .entry)) (now («numbers_out» .entry))) r
-        (now («tree_out» .exit)) (now («numbers_out» .exit)) (now (length .entry)) (now (length .exit)) ⌝ }
+        (now («tree_length» .entry)) (now («tree_length» .exit))
+        (now («tree_out» .exit)) (now («numbers_out» .exit)) ⌝ }
 {
     let r = insertion::insert(
         w,
@@ -119,7 +115,7 @@ pub extern "C" fn kiln_insert(
     );
     match r {
         answers::Length::Bytes(n) => {
-            *length = n;
+            *tree_length = n;
             0
         }
         answers::Length::Refused(n) => n,
@@ -138,10 +134,8 @@ pub extern "C" fn kiln_set(
     j: i64,
     number: i64,
 ) -> u8
-    ensures { λ r. ⌜ (r
-        ≡ codeOf ((setOutcome w h (now (tree .entry)) (now (numbers .entry)) level i j number) .result))
-        × (now (numbers .exit)
-        ≡ (setOutcome w h (now (tree .entry)) (now (numbers .entry)) level i j number) .after) ⌝ }
+    ensures { λ r. ⌜ SliceWritten
+        (setOutcome w h (now (tree .entry)) (now (numbers .entry)) level i j number) r (now (numbers .exit)) ⌝ }
 {
     let r = edit::set(w, h, tree, numbers, level, i, j, number);
     match r {
@@ -169,10 +163,8 @@ pub extern "C" fn kiln_exact(
     v: usize,
     numerator: &mut i64,
 ) -> u8
-    ensures { λ r. ⌜ (r ≡ codeOf (exactOutcome w h (now (tree .entry)) (now (numbers .entry)) u v))
-        × (now (numerator .exit)
-        ≡ orGiven itself (exactOutcome w h (now (tree .entry)) (now (numbers .entry)) u v)
-        (now (numerator .entry))) ⌝ }
+    ensures { λ r. ⌜ NumberTold (exactOutcome w h (now (tree .entry)) (now (numbers .entry)) u v) r
+        (now (numerator .entry)) (now (numerator .exit)) ⌝ }
 {
     let r = readings::exact(w, h, tree, numbers, u, v);
     match r {
@@ -220,9 +212,8 @@ pub extern "C" fn kiln_display(
     v: usize,
     watts: &mut i64,
 ) -> u8
-    ensures { λ r. ⌜ (r ≡ codeOf (displayOutcome w h (now (tree .entry)) (now (numbers .entry)) u v))
-        × (now (watts .exit)
-        ≡ orGiven itself (displayOutcome w h (now (tree .entry)) (now (numbers .entry)) u v) (now (watts .entry))) ⌝ }
+    ensures { λ r. ⌜ NumberTold (displayOutcome w h (now (tree .entry)) (now (numbers .entry)) u v) r
+        (now (watts .entry)) (now (watts .exit)) ⌝ }
 {
     let r = readings::display(w, h, tree, numbers, u, v);
     match r {
@@ -246,10 +237,8 @@ pub extern "C" fn kiln_cost(
     tariff: usize,
     cost: &mut usize,
 ) -> u8
-    ensures { λ r. ⌜ (r ≡ codeOf (costOutcome w h (now (tree .entry)) (now (numbers .entry)) u v tariff))
-        × (now (cost .exit)
-        ≡ orGiven itself (costOutcome w h (now (tree .entry)) (now (numbers .entry)) u v tariff)
-        (now (cost .entry))) ⌝ }
+    ensures { λ r. ⌜ NumberTold (costOutcome w h (now (tree .entry)) (now (numbers .entry)) u v tariff) r
+        (now (cost .entry)) (now (cost .exit)) ⌝ }
 {
     let r = readings::cost(w, h, tree, numbers, u, v, tariff);
     match r {
@@ -261,26 +250,21 @@ pub extern "C" fn kiln_cost(
     }
 }
 
-// Loads a table file; `length`, `w` and `h` receive the tree's length and the sides.
+// Loads a table file; `tree_length`, `w` and `h` receive the tree's length and the sides.
 #[no_mangle]
 pub extern "C" fn kiln_read_file(
     file: &[u8],
     tree_out: &mut [u8],
     numbers_out: &mut [i64],
-    length: &mut usize,
+    tree_length: &mut usize,
     w: &mut usize,
     h: &mut usize,
 ) -> u8
-    ensures { λ r. ⌜ (r
-        ≡ codeOf ((fileOutcome (now (file .entry)) (now («tree_out» .entry)) (now («numbers_out» .entry))) .result))
-        × (now («tree_out» .exit)
-        ≡ (fileOutcome (now (file .entry)) (now («tree_out» .entry)) (now («numbers_out» .entry))) .tree)
-        × (now («numbers_out» .exit)
-        ≡ (fileOutcome (now (file .entry)) (now («tree_out» .entry)) (now («numbers_out» .entry))) .numbers)
-        × FileTold
-        ((fileOutcome (now (file .entry)) (now («tree_out» .entry)) (now («numbers_out» .entry))) .result)
-        (now (length .exit)) (now (length .entry)) (now (w .exit)) (now (w .entry))
-        (now (h .exit)) (now (h .entry)) ⌝ }
+    ensures { λ r. ⌜ FileWritten
+        (fileOutcome (now (file .entry)) (now («tree_out» .entry)) (now («numbers_out» .entry))) r
+        (now («tree_length» .entry)) (now («tree_length» .exit))
+        (now (w .entry)) (now (w .exit)) (now (h .entry)) (now (h .exit))
+        (now («tree_out» .exit)) (now («numbers_out» .exit)) ⌝ }
 {
     let r = loading::read_file(file, tree_out, numbers_out);
     match r {
@@ -289,7 +273,7 @@ pub extern "C" fn kiln_read_file(
             w: wide,
             h: high,
         } => {
-            *length = n;
+            *tree_length = n;
             *w = wide;
             *h = high;
             0

@@ -20,12 +20,12 @@ use Rattle.surface.specs.Truncation.{weight2}
 use Rattle.surface.specs.Table.{places, start, slots, place, coefficients, limit}
 use Rattle.surface.specs.Carry.{carried}
 use Rattle.surface.proofs.Parents.{functions-step, parents2}
-use Rattle.surface.proofs.TableLaws.{start-step, place-in-slice}
+use Rattle.surface.proofs.TableLaws.{start-step, start-le, place-before, place-in-slice, place-unique}
 use Rattle.coefficients.proofs.Sizes.{starts}
 use Rattle.activity.specs.Minima.{levelsOf, RowMinima, SupportMinima}
 use Rattle.carry.specs.Carried.{CarriedFit, Carries, CarriesBelow, BoundedBelow, twoScale, rowsEnd, rowStart}
 use Rattle.carry.specs.Carried.{valueOf, rowValue, RowWritten, CarriedRow, Copied}
-use Rattle.carry.proofs.SliceLaws.{start-le, place-before, place-of, place-unique}
+use Rattle.carry.proofs.SliceLaws.{place-of}
 use Rattle.carry.proofs.StepLaws.{two-scale-cong}
 
 -- ---- one place more
@@ -68,19 +68,19 @@ module _ (level first n b from : ℕ) (least : List ℕ) (cs before : List ℤ) 
             (λ ne. w .row a (omega arith));
       }
 
-  -- the value taken from the numbers of now is that of the numbers before the row
-  pub row-value : (a m : ℕ) (now : List ℤ) {v : ℤ} → a + 3 < 2 * n → rowsEnd first n b ≤ from
-      → RowWritten level first n b from least cs before m now
-      → v ≡ valueOf (leb level (getD least a 0)) cs now (from + a) first n a b
+  -- the value taken after a part of the row is written is that taken before the row
+  pub row-value : (a m : ℕ) (after : List ℤ) {v : ℤ} → a + 3 < 2 * n → rowsEnd first n b ≤ from
+      → RowWritten level first n b from least cs before m after
+      → v ≡ valueOf (leb level (getD least a 0)) cs after (from + a) first n a b
       → v ≡ rowValue level first n b from least cs before a
-  row-value a m now parents ends w e =
+  row-value a m after parents ends w e =
       e ∙ ap (cond (leb level (getD least a 0)) (getD cs (from + a) (pos 0)))
-      (two-scale-cong now before first n a b parents (λ p l. w .kept p (omega arith)))
+      (two-scale-cong after before first n a b parents (λ p l. w .kept p (omega arith)))
 
   -- what the sums read is bounded still
-  pub row-bounded : (p m : ℕ) (now : List ℤ) → rowsEnd first n b ≤ p → p ≤ from → BoundedBelow p before
-      → RowWritten level first n b from least cs before m now → BoundedBelow (rowsEnd first n b) now
-  row-bounded p m now ends h bound w k l =
+  pub row-bounded : (p m : ℕ) (after : List ℤ) → rowsEnd first n b ≤ p → p ≤ from → BoundedBelow p before
+      → RowWritten level first n b from least cs before m after → BoundedBelow (rowsEnd first n b) after
+  row-bounded p m after ends h bound w k l =
       subst (λ x. natAbs x ≤ 131072000) (sym (w .kept k (omega arith))) (bound k (omega arith))
 
 -- ---- where a row of level L + 1 and its parents stand
@@ -157,7 +157,7 @@ module _ (W H : ℕ) (map : List ℕ) (cs : List ℤ) where
       ∙ sum2-cong (functions W L) (functions H L) (λ c d. weight2 c d a b *ℤ coefficients W H out L c d)
       (λ c d. weight2 c d a b *ℤ value L c d)
       λ i j hi hj. ap (λ t. weight2 i j a b *ℤ t)
-      (c .values L i j (omega arith) hi hj (le-trans (place-before W H L i j hi hj) hp))
+      (c .values L i j (omega arith) hi hj (le-trans (place-before W H L (suc L) i j (omega arith) hi hj) hp))
 
   module _ (L b : ℕ) (least : List ℕ) (before after : List ℤ) (hL : L < 3) (hb : b < functions H (suc L))
       (under : (a : ℕ) → a < functions W (suc L) → getD least a 0 ≡ leastUnder W H (levelsOf map) (suc L) a b) where
@@ -193,7 +193,7 @@ module _ (W H : ℕ) (map : List ℕ) (cs : List ℤ) where
             let a = place W H M i j - rowStart W H (suc L) b in
             let ha : a < n = omega arith in
             let at : place W H M i j ≡ place W H (suc L) a b = omega arith in
-            let u = place-unique W H M (suc L) i j a b hi hj ha hb at in
+            let u = place-unique W H M i j (suc L) a b hi hj ha hb at in
             rw (u .0, u .2) (row-carried c w i (rw (u .0) at hi))
 
   -- before the first row, and after the last

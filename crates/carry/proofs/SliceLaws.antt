@@ -1,32 +1,17 @@
 -- The places of the coefficients: each place before a level's start is that of one function of a level before it.
-use mathlib.Core.Path.{_≡_, sym, ap, _∙_, subst}
+use mathlib.Core.Path.{_≡_, sym, ap, _∙_}
 use mathlib.Core.List.{List}
-use Prim.Native.Nat.{ℕ, zero, suc, _+_, _-_, _*_, _≤_, _<_}
+use Prim.Native.Nat.{ℕ, zero, suc, _-_, _<_}
 use native.Mathlib.Nat.{mul-comm}
 use native.Mathlib.Decide.{decLt}
 use native.Mathlib.Omega.{arith}
 use lib.IntN.{ℤ, pos}
 use lib.ListN.{length, getD}
 use lib.Seq.{ext-getD}
-use Rattle.finite.proofs.Table.{place-below, place-inj, place-split}
+use Rattle.finite.proofs.Table.{place-split}
 use Rattle.surface.specs.Sheet.{functions}
 use Rattle.surface.specs.Table.{start, slots, place, coefficients, sliceOf}
-use Rattle.surface.proofs.TableLaws.{start-step, start-mono, slice-length, slice-coefficient}
-
-pub start-le : (W H L M : ℕ) → L ≤ M → start W H L ≤ start W H M
-start-le W H L M h =
-    let e : M - L + L ≡ M = omega arith in
-    subst (λ k. start W H L ≤ start W H k) e (start-mono W H (M - L) L)
-
--- a level's places are before the next level's start
-pub place-before : (W H L a b : ℕ) → a < functions W L → b < functions H L → place W H L a b < start W H (suc L)
-place-before W H L a b ha hb =
-    omega (
-      arith,
-      place-below (functions W L) (functions H L) a b ha hb,
-      start-step W H L,
-      mul-comm (functions W L) (functions H L),
-    )
+use Rattle.surface.proofs.TableLaws.{start-step, slice-length, slice-coefficient}
 
 -- a place p before the start of level k, and the function that it is the place of
 pub record PlaceOf (W H k p : ℕ) : Type 0 where
@@ -67,25 +52,6 @@ place-of W H (suc k) p h = go (place-of W H k p) (decLt p (start W H k))
           row-in = s .3;
           same = omega (arith, s .4);
         }
-
--- different functions have different places
-module _ (W H L M a b c d : ℕ) (ha : a < functions W L) (hb : b < functions H L) (hc : c < functions W M)
-    (hd : d < functions H M) (e : place W H L a b ≡ place W H M c d) where
-  same-level : L ≡ M
-  same-level = go (decLt L M) (decLt M L)
-    where
-      go : Dec (L < M) → Dec (M < L) → L ≡ M
-      go (yes l) g = absurd (omega (arith, place-before W H L a b ha hb, start-le W H (suc L) M l))
-      go (no l) (yes g) = absurd (omega (arith, place-before W H M c d hc hd, start-le W H (suc M) L g))
-      go (no l) (no g) = omega arith
-
-  pub place-unique : (L ≡ M) × (a ≡ c) × (b ≡ d)
-  place-unique =
-      let same = same-level in
-      let at : b * functions W L + a ≡ d * functions W L + c =
-      omega (arith, ap (λ k. start W H k) same, ap (λ k. d * functions W k) same) in
-      let s = place-inj (functions W L) a b c d ha (rw same hc) at in
-      (same, s .0, s .1)
 
 -- a slice whose coefficients are those of f is the slice that holds them
 pub slice-same : (W H : ℕ) (s : List ℤ) (f : ℕ → ℕ → ℕ → ℤ) → length s ≡ slots W H

@@ -62,12 +62,12 @@ rowValue level first n b from least cs before a =
     valueOf (leb level (getD least a 0)) cs before (from + a) first n a b
 
 -- the first m places of the row from `from` on are written, and none before it
-pub record RowWritten (level first n b from : ℕ) (least : List ℕ) (cs before : List ℤ) (m : ℕ) (now : List ℤ) : Type 0
-  where
-    pub size : length now ≡ length before
-    pub kept : (p : ℕ) → p < from → getD now p (pos 0) ≡ getD before p (pos 0)
-    pub row : (a : ℕ) → a < m
-        → getD now (from + a) (pos 0) ≡ rowValue level first n b from least cs before a
+pub record RowWritten (level first n b from : ℕ) (least : List ℕ) (cs before : List ℤ) (m : ℕ) (after : List ℤ)
+    : Type 0 where
+  pub size : length after ≡ length before
+  pub kept : (p : ℕ) → p < from → getD after p (pos 0) ≡ getD before p (pos 0)
+  pub row : (a : ℕ) → a < m
+      → getD after (from + a) (pos 0) ≡ rowValue level first n b from least cs before a
 
 -- row b of level L + 1 is written, from the least levels and level L
 abbrev pub CarriedRow : ℕ → ℕ → ℕ → ℕ → List ℕ → List ℤ → List ℤ → List ℤ → Type 0

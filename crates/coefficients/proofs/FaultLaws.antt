@@ -28,7 +28,7 @@ of-zero : (c : ℤ) → natAbs c ≡ 0 → ofZ w64 c ≡ 0
 of-zero (pos n) e = e
 of-zero (negsuc n) e = absurd (omega arith)
 
-pub low : {z : ℤ} {m : ℕ} → z ≡ pos m → pos 0 -ℤ z ≡ negℤ (pos m)
+low : {z : ℤ} {m : ℕ} → z ≡ pos m → pos 0 -ℤ z ≡ negℤ (pos m)
 low {z} e = +ℤ-idl (negℤ z) ∙ ap negℤ e
 
 pub low-fits : {z : ℤ} {m : ℕ} → z ≡ pos m → m < 9000000000 → SFits w64 (pos 0 -ℤ z)

@@ -11,20 +11,18 @@ use Rattle.surface.specs.Sheet.{functions}
 use Rattle.surface.specs.Table.{places, start, slots}
 use Rattle.surface.proofs.TableLaws.{start-before}
 
-pub row-small : (b n : ℕ) → b < 67 → n ≤ 67 → b * n ≤ 4489
-row-small b n hb hn = let few : b ≤ 67 = omega arith in mul-le-mul few hn
+-- the place of a row, of m rows of n
+pub row-small : (b m n : ℕ) → b < m → m ≤ 67 → n ≤ 67 → (b * n ≤ 4489) × (b < 67)
+row-small b m n below few columns =
+    let low : b ≤ 67 = omega arith in
+    (mul-le-mul low columns, omega arith)
 
 -- a row in the level's part
-pub row-fits : (W H L n b : ℕ) → n ≡ functions W L → b < functions H L → b * n + n ≤ places W H L
-row-fits W H L n b columns below =
-    let fits : b * functions W L + functions W L ≤ places W H L =
-    omega (
-      arith,
-      mul-le-mul-right (functions W L) below,
-      suc-mul b (functions W L),
-      mul-comm (functions W L) (functions H L),
-    ) in
-    rw columns fits
+pub row-fits : (W H L b n m : ℕ) (cs : List ℤ) → n ≡ functions W L → m ≡ functions H L → b < m
+    → length cs ≡ places W H L → b * n + n ≤ length cs
+row-fits W H L b n m cs columns rows below size =
+    let all : length cs ≡ n * m = rw (columns, rows) size in
+    omega (arith, mul-le-mul-right n below, suc-mul b n, mul-comm n m)
 
 -- the level's part in the slice
 pub level-fits : (W H L first size : ℕ) → L ≤ 3 → first ≡ start W H L → size ≡ places W H L

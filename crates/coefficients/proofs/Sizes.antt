@@ -1,8 +1,7 @@
 -- The sizes of the levels, level by level.
 use mathlib.Core.Path.{_≡_, refl, ap}
-use Prim.Native.Nat.{ℕ, _+_, _*_, _^_, _≤_, _<_}
-use native.Mathlib.Nat.{mul-le-mul}
-use lib.IntN.{ℤ, pos}
+use Prim.Native.Nat.{ℕ, _+_, _*_, _^_}
+use lib.IntN.{pos}
 use Rattle.surface.specs.Sheet.{functions}
 use Rattle.surface.specs.Table.{places, start, limit}
 

@@ -1,1 +1,4 @@
 pub mod CornerLaws
+pub mod TextLaws
+pub mod FileText
+pub mod Theorems

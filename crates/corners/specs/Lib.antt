@@ -1,1 +1,3 @@
-pub mod Painted
+pub mod Text
+pub mod Buffers
+pub mod Claims

@@ -1,6 +1,6 @@
 -- The causes and the outcome of `fresh`, and the slice of a fresh table.
 use mathlib.Core.Path.{_≡_, refl, sym, ap, ap₂, _∙_, subst}
-use mathlib.Core.Bool.{Bool, true, false, not, _&&_}
+use mathlib.Core.Bool.{Bool, not, _&&_}
 use mathlib.Core.List.{List, [], _∷_, _++_, append-nil}
 use Prim.Native.Nat.{ℕ, zero, suc, _+_, _-_, _*_, _≤_, _<_}
 use native.Mathlib.Nat.{mul-comm}
@@ -18,6 +18,7 @@ use Rattle.surface.specs.Calls.{Answer, refused, gives, answer, afterwards, put
 use Rattle.surface.specs.Calls.{freshCause, freshCoefficients, freshOutcome}
 use Rattle.surface.proofs.Least.{both}
 use Rattle.surface.proofs.TableLaws.{orElse-none, cause-none, good-side}
+use Rattle.surface.proofs.Refusals.{cause-off}
 use Rattle.coefficients.proofs.Sizes.{starts}
 
 -- ---- the slice
@@ -101,12 +102,8 @@ module _ (W H : ℕ) (number : ℤ) (tree : List ℕ) (numbers : List ℤ) where
         good-side W (sides .0) .1,
         good-side H (sides .1) .1,
         eqb-true (length numbers) (slots W H) (cause-none 15 (eqb (length numbers) (slots W H)) (e16 .0)),
-        long (ltb (length tree) 1) refl (e16 .1),
+        ltb-false (length tree) 1 (cause-off 16 (ltb (length tree) 1) (e16 .1)),
       )
-    where
-      long : (t : Bool) → ltb (length tree) 1 ≡ t → cause 17 t ≡ 0 → 0 < length tree
-      long true e c = absurd (omega arith)
-      long false e c = omega (arith, ltb-false (length tree) 1 e)
 
   -- ---- the outcome
 

@@ -1,19 +1,23 @@
 -- The causes and the outcome of `set`.
 use mathlib.Core.Path.{_≡_, refl, sym, ap, ap₂, _∙_, subst}
 use mathlib.Core.Bool.{Bool, true, false, not, _&&_, and-false}
-use mathlib.Core.List.{List}
-use Prim.Native.Nat.{ℕ, zero, suc, _+_, _*_, _≤_, _<_}
-use native.Mathlib.Omega.{arith}
+use mathlib.Core.List.{List, [], _∷_, _++_}
+use Prim.Native.Nat.{ℕ, zero, suc, _+_, _-_, _*_, _≤_, _<_}
+use native.Mathlib.Nat.{mul-comm, zero-add, suc-add}
 use borrow.Author.Tests.{ltb-false}
 use lib.Dec.{ltb}
 use lib.IntN.{ℤ, natAbs}
-use lib.ListN.{length, set}
+use lib.ListN.{length, set, take, drop, take-append-drop}
+use lib.Seq.{set-append-left}
+use Rattle.finite.proofs.Table.{place-below}
 use Rattle.surface.specs.Sheet.{functions}
 use Rattle.surface.specs.Support.{active}
-use Rattle.surface.specs.Table.{cause, _orElse_, treeOf, formed, levels, start, slots, place, limit, tableCause}
+use Rattle.surface.specs.Table.{cause, _orElse_, levels, places, start, slots, place, limit, tableCause}
 use Rattle.surface.specs.Calls.{Answer, refused, gives, answer, afterwards, indexFits, index, setCause, setOutcome}
 use Rattle.surface.proofs.Least.{both}
-use Rattle.surface.proofs.TableLaws.{orElse-none, cause-none, good-side, sound, tree-formed, place-in-slice}
+use Rattle.surface.proofs.TableLaws.{orElse-none, orElse-first, cause-none, sound, sides}
+use Rattle.surface.proofs.Refusals.{cause-off}
+use Rattle.coefficients.proofs.Parts.{part, part-length}
 
 -- ---- the function can be set, by the tests of its indices
 
@@ -28,17 +32,41 @@ module _ (n m L : ℕ) (i j : ℤ) (act : Bool) where
   pub second-off : indexFits m L j ≡ false → false ≡ (indexFits n L i && indexFits m L j && act)
   second-off q = rw (q, and-false (indexFits n L i))
 
--- ---- the place in the slice
+-- ---- the place in the level's part, and the part in the slice
 
-pub in-slice : (W H L a b n s : ℕ) (cs : List ℤ) → L ≤ 3 → n ≡ functions W L → s ≡ start W H L
-    → a < functions W L → b < functions H L → length cs ≡ slots W H → s + (b * n + a) < length cs
-in-slice W H L a b n s cs hL e f ha hb size = rw (e, f, size) (place-in-slice W H L a b (omega arith) ha hb)
+pub in-part : (W H L a b n first size : ℕ) (cs : List ℤ) → n ≡ functions W L → size ≡ places W H L
+    → a < functions W L → b < functions H L → first + size ≤ length cs → b * n + a < length (part first size cs)
+in-part W H L a b n first size cs e sized ha hb h =
+    let n = functions W L in
+    let m = functions H L in
+    rw (e, part-length first size cs h ∙ sized, mul-comm n m) (place-below n m a b ha hb)
 
-pub set-place : (W H L a b n s : ℕ) (cs : List ℤ) (i j : ℤ) {z number : ℤ} → n ≡ functions W L
-    → s ≡ start W H L → a ≡ index i → b ≡ index j → z ≡ number
-    → set cs (s + (b * n + a)) z ≡ set cs (place W H L (index i) (index j)) number
-set-place W H L a b n s cs i j e f p q r =
-    ap₂ (set cs)
+-- an element set behind the first n
+set-behind : (n k : ℕ) (cs : List ℤ) (z : ℤ) → take n cs ++ set (drop n cs) k z ≡ set cs (n + k) z
+set-behind zero k cs z = rw (zero-add k)
+set-behind (suc n) k [] z = refl
+set-behind (suc n) k (x ∷ cs) z = rw (suc-add n k) (ap (λ l. x ∷ l) (set-behind n k cs z))
+
+-- and in a part
+set-inside : (first size k : ℕ) (cs : List ℤ) (z : ℤ) → k < length (part first size cs)
+    → take first cs ++ (set (part first size cs) k z ++ drop (first + size - first) (drop first cs))
+    ≡ set cs (first + k) z
+set-inside first size k cs z h =
+    let n = first + size - first in
+    let rest = drop first cs in
+    ap (λ l. take first cs ++ l)
+    (sym (set-append-left (take n rest) (drop n rest) k z h) ∙ ap (λ l. set l k z) (take-append-drop n rest))
+    ∙ set-behind first k cs z
+
+pub set-place : (W H L a b n first size : ℕ) (cs x : List ℤ) (i j : ℤ) {z number : ℤ} → n ≡ functions W L
+    → first ≡ start W H L → a ≡ index i → b ≡ index j → z ≡ number → b * n + a < length (part first size cs)
+    → x ≡ set (part first size cs) (b * n + a) z
+    → take first cs ++ (x ++ drop (first + size - first) (drop first cs))
+    ≡ set cs (place W H L (index i) (index j)) number
+set-place W H L a b n first size cs x i j {z} {number} e f p q r h w =
+    ap (λ x. take first cs ++ (x ++ drop (first + size - first) (drop first cs))) w
+    ∙ set-inside first size (b * n + a) cs z h
+    ∙ ap₂ (set cs)
     (ap₂ (λ s n. s + (b * n + a)) f e ∙ ap₂ (λ a b. start W H L + (b * functions W L + a)) p q) r
 
 -- ---- causes
@@ -49,13 +77,10 @@ pub set-same : (W H : ℕ) (t : List ℕ) (cs : List ℤ) (L : ℕ) {i j k x y z
 set-same W H t cs L {i} {j} {k} {x} {y} {z} p q r =
     ap (λ i. setCause W H t cs L i j k) p ∙ ap₂ (setCause W H t cs L x) q r
 
--- what holds of the sides and the tree of a table with none of the first five
+-- the sides of a table with none of the first five
 pub table-none : (W H : ℕ) (t : List ℕ) (cs : List ℤ) → 0 ≡ tableCause W H t cs
-    → (0 < W) × (W ≤ 8) × (H ≤ 8) × (formed W H (treeOf t) ≡ true)
-table-none W H t cs e =
-    let s = sound W H t cs (sym e) in
-    let w = good-side W (s .side-W) in
-    (w .0, w .1, good-side H (s .side-H) .1, tree-formed W H t (s .tree))
+    → (0 < W) × (W ≤ 8) × (0 < H) × (H ≤ 8)
+table-none W H t cs e = sides (sound W H t cs (sym e))
 
 -- by the first five causes and the tests of the level, the function and the number
 abbrev pub chain : ℕ → Bool → Bool → Bool → ℕ
@@ -77,12 +102,8 @@ module _ (W H : ℕ) (t : List ℕ) (cs : List ℤ) (L : ℕ) (i j number : ℤ)
   pub set-table : (r : ℕ) → r ≡ tableCause W H t cs → (r ≡ 0 → ⊥) → r ≡ setCause W H t cs L i j number
   unfolding setCause
   set-table r e h =
-      first r h (chain 0 (ltb 3 L) fit (ltb (limit L) (natAbs number)))
+      orElse-first r (chain 0 (ltb 3 L) fit (ltb (limit L) (natAbs number))) h
       ∙ ap (λ r. chain r (ltb 3 L) fit (ltb (limit L) (natAbs number))) e
-    where
-      first : (r : ℕ) → (r ≡ 0 → ⊥) → (n : ℕ) → r ≡ r orElse n
-      first zero h n = absurd (h refl)
-      first (suc r) h n = refl
 
   pub set-by : (l s p : Bool) → 0 ≡ tableCause W H t cs → l ≡ ltb 3 L → s ≡ fit
       → p ≡ ltb (limit L) (natAbs number) → chain 0 l s p ≡ setCause W H t cs L i j number
@@ -107,17 +128,13 @@ module _ (W H : ℕ) (t : List ℕ) (cs : List ℤ) (L : ℕ) (i j number : ℤ)
       let f = both (indexFits W L i && indexFits H L j) act (cause-none 8 fit (e9 .0)) in
       let k = both (indexFits W L i) (indexFits H L j) (f .0) in
       record {
-        side-W = good-side W (s .side-W) .1;
-        side-H = good-side H (s .side-H) .1;
-        level = low (ltb 3 L) refl (e8 .0);
+        side-W = sides s .1;
+        side-H = sides s .3;
+        level = ltb-false 3 L (cause-off 7 (ltb 3 L) (e8 .0));
         size = s .size;
         first = k .0;
         second = k .1;
       }
-    where
-      low : (b : Bool) → ltb 3 L ≡ b → cause 8 b ≡ 0 → L ≤ 3
-      low true e c = absurd (omega arith)
-      low false e c = ltb-false 3 L e
 
   -- ---- the outcome
 

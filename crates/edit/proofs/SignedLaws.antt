@@ -2,42 +2,33 @@
 use mathlib.Core.Path.{_≡_, refl, sym, ap, _∙_, subst}
 use mathlib.Core.Bool.{Bool, true, false, not}
 use Prim.Native.Nat.{ℕ, zero, suc, _≤_, _<_}
-use native.Mathlib.Nat.{lt-of-not-le}
 use native.Mathlib.Omega.{arith}
 use borrow.Author.Tests.{lt-ltb, le-ltb, lt-leb, le-leb, ltb-true, ltb-false, leb-true}
-use lib.Dec.{T, ltb}
-use lib.IntN.{ℤ, pos, negsuc, negℤ, natAbs, _+ℤ_, _-ℤ_, +ℤ-idl}
-use lib.Signed.{leZ, ltZ, ltZ-yes, ltZ-no, clashℤ}
+use lib.Dec.{ltb}
+use lib.IntN.{ℤ, pos, negsuc, natAbs, _+ℤ_, _-ℤ_}
+use lib.Signed.{leZ, ltZ}
 use mir.Syntax.{w64}
 use mir.Val.{SFits, ofZ, toZ}
 use mir.ValLaws.{toZ-ofZ}
-use Rattle.finite.proofs.Order.{abs-le, le-abs}
 use Rattle.surface.specs.Sheet.{cells, functions}
 use Rattle.surface.specs.Calls.{indexFits, index}
 use Rattle.surface.proofs.Least.{both}
-use Rattle.coefficients.proofs.FaultLaws.{low}
+use Rattle.coefficients.proofs.FaultLaws.{above, below, between}
 use Rattle.activity.proofs.MinimaLaws.{functions-le}
 
 -- ---- a number c and its limit m, which is in z
 
 module _ {c z : ℤ} {m : ℕ} (s : SFits w64 c) (e : z ≡ pos m) where
   pub past-above : ltZ z (toZ w64 (ofZ w64 c)) ≡ true → true ≡ ltb m (natAbs c)
-  past-above t =
-      let u : ltZ (pos m) c ≡ true = rw (e, toZ-ofZ w64 c s) at t in
-      sym (lt-ltb m (natAbs c) (lt-of-not-le (λ h. clashℤ (ltZ-yes (subst T (sym u) tt)) (abs-le c h .1))))
+  past-above t = sym (lt-ltb m (natAbs c) (above s e t))
 
   pub past-below : SFits w64 (pos 0 -ℤ z) → ltZ z (toZ w64 (ofZ w64 c)) ≡ false
       → ltZ (toZ w64 (ofZ w64 c)) (toZ w64 (ofZ w64 (pos 0 -ℤ z))) ≡ ltb m (natAbs c)
-  past-below f t =
-      rw (toZ-ofZ w64 c s, toZ-ofZ w64 (pos 0 -ℤ z) f, low e) (go (ltZ c (negℤ (pos m))) refl)
+  past-below f t = go (ltZ (toZ w64 (ofZ w64 c)) (toZ w64 (ofZ w64 (pos 0 -ℤ z)))) refl
     where
-      go : (b : Bool) → ltZ c (negℤ (pos m)) ≡ b → b ≡ ltb m (natAbs c)
-      go true u =
-          sym (lt-ltb m (natAbs c) (lt-of-not-le (λ h. clashℤ (ltZ-yes (subst T (sym u) tt)) (abs-le c h .0))))
-      go false u =
-          let k : ltZ (pos m) c ≡ false = rw (e, toZ-ofZ w64 c s) at t in
-          sym (le-ltb m (natAbs c)
-          (le-abs c (ltZ-no (subst (λ b. T (not b)) (sym u) tt)) (ltZ-no (subst (λ b. T (not b)) (sym k) tt))))
+      go : (b : Bool) → ltZ (toZ w64 (ofZ w64 c)) (toZ w64 (ofZ w64 (pos 0 -ℤ z))) ≡ b → b ≡ ltb m (natAbs c)
+      go true u = sym (lt-ltb m (natAbs c) (below s e f u))
+      go false u = sym (le-ltb m (natAbs c) (between s e f t u))
 
 -- ---- an index i
 

@@ -2,31 +2,28 @@
 ghost use mathlib.Core.Path.{_≡_};
 ghost use mathlib.Core.Bool.{true, _&&_};
 ghost use mathlib.Core.List.{_++_};
-ghost use Prim.Native.Nat.{_-_, _≤_, _<_};
+ghost use Prim.Native.Nat.{_+_, _-_, _*_, _≤_, _<_};
 ghost use lib.Dec.{ltb};
 ghost use lib.IntN.{pos, natAbs};
+ghost use lib.ListN as ListN;
 ghost use lib.ListN.{length, replicate};
 ghost use Rattle.surface.specs.Sheet.{goodSide, functions};
 ghost use Rattle.surface.specs.Support.{active};
-ghost use Rattle.surface.specs.Table.{limit, treeOf, formed, levels};
+ghost use Rattle.surface.specs.Table.{limit};
 ghost use Rattle.surface.specs.Calls.{freshCause, freshOutcome, indexFits, setCause, setOutcome};
 ghost use Rattle.surface.specs.Calls as Calls;
+ghost use Rattle.activity.specs.Minima.{levelsOf};
 ghost use Rattle.answers.specs.Answers.{lengthAnswer, outcomeAnswer};
 
 // Whether both sides are 1 to 8.
 fn good_sides(w: usize, h: usize) -> bool
     ensures { λ r. ⌜ r ≡ (goodSide w && goodSide h) ⌝ }
 {
-    if w < 1 {
-        return false;
+    if table::cause::good_side(w) {
+        table::cause::good_side(h)
+    } else {
+        false
     }
-    if 8 < w {
-        return false;
-    }
-    if h < 1 {
-        return false;
-    }
-    h <= 8
 }
 
 // Whether a number is past its level's limit, above or below.
@@ -116,31 +113,29 @@ fn index(n: usize, level: usize, i: i64) -> usize
     (i + 3) as usize
 }
 
-// Whether the function with these indices is active.
-fn is_active(t: &[u8], w: usize, h: usize, level: usize, a: usize, b: usize) -> bool
-    requires { ⌜ (0 < w) × (w ≤ 8) × (h ≤ 8) × (level ≤ 3) × (a < functions w level) × (b < functions h level)
-        × (formed w h (treeOf (now t)) ≡ true) ⌝ }
-    ensures { λ r. ⌜ r ≡ active w h (levels (now (t .entry))) level a b ⌝ }
+// Whether the function with these indices is active under the levels of a map.
+fn is_active(map: &[u8; 1024], w: usize, h: usize, level: usize, a: usize, b: usize) -> bool
+    requires { ⌜ (0 < w) × (w ≤ 8) × (h ≤ 8) × (level ≤ 3) × (a < functions w level) × (b < functions h level) ⌝ }
+    ensures { λ r. ⌜ r ≡ active w h (levelsOf (now (map .entry))) level a b ⌝ }
 {
     let n = coefficients::functions(w, level);
-    let map = quadtree::paint::paint(t);
-    let minima = activity::row_minima(&map, w, h, level, n);
+    let minima = activity::row_minima(map, w, h, level, n);
     let least = activity::support_minima(&minima, h, level, b);
     least[a] == level as u8
 }
 
-// Whether (i, j) is an active function of the level.
-fn settable(t: &[u8], w: usize, h: usize, level: usize, i: i64, j: i64) -> bool
-    requires { ⌜ (0 < w) × (w ≤ 8) × (h ≤ 8) × (level ≤ 3) × (formed w h (treeOf (now t)) ≡ true) ⌝ }
+// Whether (i, j) is an active function of the level, under the levels of a map.
+fn settable(map: &[u8; 1024], w: usize, h: usize, level: usize, i: i64, j: i64) -> bool
+    requires { ⌜ (0 < w) × (w ≤ 8) × (h ≤ 8) × (level ≤ 3) ⌝ }
     ensures { λ r. ⌜ r ≡ (indexFits w level i
         && indexFits h level j
-        && active w h (levels (now (t .entry))) level (Calls.index i) (Calls.index j)) ⌝ }
+        && active w h (levelsOf (now (map .entry))) level (Calls.index i) (Calls.index j)) ⌝ }
 {
     if index_fits(w, level, i) {
         if index_fits(h, level, j) {
             let a = index(w, level, i);
             let b = index(h, level, j);
-            return is_active(t, w, h, level, a, b);
+            return is_active(map, w, h, level, a, b);
         }
     }
     false
@@ -159,20 +154,30 @@ fn set_cause(
 ) -> u8
     ensures { λ r. ⌜ r ≡ setCause w h (now (t .entry)) (now (cs .entry)) level i j number ⌝ }
 {
-    let cause = table::cause::table_cause(w, h, t, cs);
+    let mut map = [0u8; 1024];
+    let cause = table::cause::check(w, h, t, cs, &mut map);
     if cause != 0 {
         return cause;
     }
     if 3 < level {
         return 8;
     }
-    if settable(t, w, h, level, i, j) {
+    if settable(&map, w, h, level, i, j) {
         if past(number, level) {
             return 10;
         }
         return 0;
     }
     9
+}
+
+// Sets the coefficient of the function (a, b) in its level's part, in rows of n.
+fn set_in_part(part: &mut [i64], n: usize, a: usize, b: usize, number: i64)
+    requires { ⌜ (n ≤ 67) × (a ≤ 67) × (b ≤ 67) × (b * n + a < length (now part)) ⌝ }
+    ensures { λ _. ⌜ now (part .exit) ≡ ListN.set (now (part .entry)) (b * n + a) number ⌝ }
+{
+    let at = b * n + a;
+    part[at] = number;
 }
 
 // Sets one active coefficient: function (i, j) of a level, i and j from -3 on.
@@ -198,7 +203,8 @@ pub fn set(
     let n = coefficients::functions(w, level);
     let a = index(w, level, i);
     let b = index(h, level, j);
-    let at = coefficients::start(w, h, level) + (b * n + a);
-    numbers[at] = number;
+    let first = coefficients::start(w, h, level);
+    let end = first + coefficients::places(w, h, level);
+    set_in_part(&mut numbers[first..end], n, a, b, number);
     answers::Outcome::Done
 }

@@ -1,16 +1,10 @@
 -- Laws of the integers that the kit leaves out: the ring, and linear facts through `omega`.
 -- `up z` and `dn z` are the parts of z above and below zero; a linear goal on integers is one on these parts.
-use mathlib.Core.Path.{_≡_, refl, sym, ap, _∙_, subst}
-use mathlib.Core.Bool.{Bool, true, false, cond}
-use Prim.Native.Nat.{ℕ, zero, suc, _+_, _-_, _*_, _≤_, _<_}
-use native.Mathlib.Nat.{add-zero, zero-add, mul-comm, mul-assoc, mul-add, zero-mul, mul-le-mul-left, suc-add, add-suc}
-use native.Mathlib.Omega.{arith}
-use lib.Dec.{T, ltb, leb, leb→le, le→leb}
-use borrow.Author.Tests.{ltb-true, ltb-false}
-use lib.IntN.{ℤ, pos, negsuc, sucℤ, predℤ, negℤ, natAbs, subℕ, _+ℤ_, _-ℤ_, _*ℤ_, negℤ-negℤ, negℤ-+ℤ}
-use lib.IntN.{+ℤ-sucℤ, +ℤ-predℤ, +ℤ-idl, +ℤ-idr, +ℤ-assoc, +ℤ-comm, +ℤ-invr, sucℤ-*ℤ, predℤ-*ℤ, zero-*ℤ, *ℤ-zero}
-use lib.IntN.{*ℤ-comm}
-use lib.Signed.{_≤ℤ_, leZ}
+use mathlib.Core.Path.{_≡_, refl, sym, ap, _∙_}
+use Prim.Native.Nat.{ℕ, zero, suc, _*_}
+use native.Mathlib.Nat.{mul-assoc}
+use lib.IntN.{ℤ, pos, negsuc, predℤ, negℤ, _+ℤ_, _-ℤ_, _*ℤ_, negℤ-negℤ, +ℤ-sucℤ, +ℤ-predℤ, +ℤ-idl, +ℤ-idr, +ℤ-assoc}
+use lib.IntN.{+ℤ-comm, sucℤ-*ℤ, predℤ-*ℤ, zero-*ℤ, *ℤ-comm}
 
 -- ---- the ring
 
@@ -43,9 +37,6 @@ pub *ℤ-assoc : (x y z : ℤ) → x *ℤ y *ℤ z ≡ x *ℤ (y *ℤ z)
     y)
     (λ x e. ap (λ t. t *ℤ z) (neg-mul x y) ∙ neg-mul (x *ℤ y) z ∙ ap negℤ e ∙ sym (neg-mul x (y *ℤ z)))
     x
-
-add-right-comm : (a b c : ℤ) → a +ℤ b +ℤ c ≡ a +ℤ c +ℤ b
-add-right-comm a b c = +ℤ-assoc a b c ∙ ap (λ t. a +ℤ t) (+ℤ-comm b c) ∙ sym (+ℤ-assoc a c b)
 
 pub add-*ℤ : (x y z : ℤ) → (x +ℤ y) *ℤ z ≡ x *ℤ z +ℤ y *ℤ z
 add-*ℤ x (pos zero) z = rw (+ℤ-idr x, zero-*ℤ z, +ℤ-idr)

@@ -1,12 +1,12 @@
 -- Laws of finite sums.
-use mathlib.Core.Path.{_≡_, refl, sym, ap, _∙_, subst}
+use mathlib.Core.Path.{_≡_, refl, sym, ap, _∙_}
 use Prim.Native.Nat.{ℕ, zero, suc, _+_, _-_, _≤_, _<_}
 use native.Mathlib.Omega.{arith}
 use native.Mathlib.Nat.{le-step, lt-suc-self, add-zero, add-suc}
 use lib.IntN.{ℤ, pos, _+ℤ_, _*ℤ_, +ℤ-idl, +ℤ-idr, +ℤ-assoc, +ℤ-comm, *ℤ-zero, *ℤ-comm}
 use lib.Signed.{_≤ℤ_, ≤ℤ-refl}
 use Rattle.finite.specs.Range.{sum, sum2}
-use Rattle.finite.proofs.Int.{ring, *ℤ-add, *ℤ-assoc, +ℤ-left-comm}
+use Rattle.finite.proofs.Int.{*ℤ-add, +ℤ-left-comm}
 use Rattle.finite.proofs.Order.{+ℤ-mono}
 
 -- sums of terms that agree below n

@@ -1,6 +1,6 @@
 -- Laws of tables and grids: their lengths, their elements, and the place b * n + a of column a in row b.
 use mathlib.Core.Path.{_≡_, refl, sym, ap, ap₂, _∙_}
-use mathlib.Core.List.{List, [], _∷_, _++_}
+use mathlib.Core.List.{List, _∷_, _++_}
 use Prim.Native.Nat.{ℕ, zero, suc, _+_, _*_, _/_, _%_, _<_, suc-le-suc}
 use native.Mathlib.Nat.{add-zero, zero-add, add-suc, suc-add, zero-mul, mul-zero, suc-mul, zero-lt-suc}
 use native.Mathlib.Nat.{le-of-suc-le-suc, not-suc-le-zero, mul-le-mul-right, eq-of-mul-eq-mul-right}
@@ -104,18 +104,6 @@ module _ {A : Type 0} where
 
   pub grid-cong : (n m : ℕ) (f g : ℕ → ℕ → A) → ((a b : ℕ) → a < n → b < m → f a b ≡ g a b) → grid n m f ≡ grid n m g
   grid-cong n m f g h = rows-cong 0 n m f g (λ a b la lb. rw (zero-add b) (h a b la lb))
-
-  -- a list of m * n elements is the grid of its elements
-  pub grid-of-list : (n m : ℕ) (l : List A) (d : A) → length l ≡ m * n → grid n m (λ a b. getD l (b * n + a) d) ≡ l
-  grid-of-list n m l d e = ext-getD d (grid n m f) l (length-grid n m f ∙ sym e) same
-    where
-      f : ℕ → ℕ → A
-      f a b = getD l (b * n + a) d
-
-      same : (i : ℕ) → i < length (grid n m f) → getD (grid n m f) i d ≡ getD l i d
-      same i h =
-          let s = place-split n m i (rw (length-grid n m f) at h) in
-          rw (s .4) (getD-grid n m f (s .0) (s .1) d (s .2) (s .3))
 
   -- a grid of one value is that value over and over
   pub grid-const : (n m : ℕ) (x : A) → grid n m (λ a b. x) ≡ replicate (m * n) x

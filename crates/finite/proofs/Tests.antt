@@ -1,12 +1,17 @@
 -- Laws of tests, counts and totals over the numbers 0 to n - 1, and of tests over a grid.
-use mathlib.Core.Path.{_≡_, refl, sym, ap₂, _∙_}
+use mathlib.Core.Path.{_≡_, refl, sym, ap₂}
 use mathlib.Core.Bool.{Bool, true, false, _&&_, cond, and-eq-true-iff}
-use Prim.Native.Nat.{ℕ, zero, suc, _+_, _*_, _≤_, _<_}
-use native.Mathlib.Nat.{le-step, lt-suc-self, not-suc-le-zero, zero-mul, suc-mul, le-refl}
-use native.Mathlib.Numerals.{add-one}
+use Prim.Native.Nat.{ℕ, zero, suc, _+_, _≤_, _<_}
+use native.Mathlib.Nat.{le-step, lt-suc-self, not-suc-le-zero, le-refl}
 use native.Mathlib.Decide.{decLt}
 use native.Mathlib.Omega.{arith}
 use Rattle.finite.specs.Range.{every, every2, count, total}
+
+-- two tests are equal when each holds as the other does
+pub same-test : (s t : Bool) → (s ≡ true → t ≡ true) → (t ≡ true → s ≡ true) → s ≡ t
+same-test true t f g = sym (f refl)
+same-test false true f g = g refl
+same-test false false f g = refl
 
 -- ---- tests that hold everywhere
 
@@ -52,12 +57,6 @@ unfolding total
 total-cong zero f g h = refl
 total-cong (suc n) f g h = ap₂ _+_ (total-cong n f g (λ k l. h k (le-step l))) (h n (lt-suc-self n))
 
-pub total-const : (n c : ℕ) (f : ℕ → ℕ) → ((k : ℕ) → k < n → f k ≡ c) → total n f ≡ n * c
-unfolding total
-total-const zero c f h = sym (zero-mul c)
-total-const (suc n) c f h =
-    ap₂ _+_ (total-const n c f (λ k l. h k (le-step l))) (h n (lt-suc-self n)) ∙ sym (suc-mul n c)
-
 -- ---- counts
 
 pub count-cong : (n : ℕ) (p q : ℕ → Bool) → ((k : ℕ) → k < n → p k ≡ q k) → count n p ≡ count n q
@@ -74,9 +73,3 @@ count-le (suc n) p = omega (arith, count-le n p, at-most-one (p n))
     at-most-one : (t : Bool) → cond t 1 0 ≤ 1
     at-most-one true = omega arith
     at-most-one false = omega arith
-
-pub count-all : (n : ℕ) (p : ℕ → Bool) → ((k : ℕ) → k < n → p k ≡ true) → count n p ≡ n
-unfolding count
-count-all zero p h = refl
-count-all (suc n) p h =
-    ap₂ (λ c t. c + cond t 1 0) (count-all n p (λ k l. h k (le-step l))) (h n (lt-suc-self n)) ∙ add-one n

@@ -1,9 +1,9 @@
 -- Sums with weights that are naturals. Each premise may use that its weight is not 0.
-use mathlib.Core.Path.{_≡_, refl, sym, ap, _∙_, subst}
+use mathlib.Core.Path.{_≡_, sym, ap, _∙_, subst}
 use mathlib.Core.Logic.{_⊎_, inl, inr}
-use Prim.Native.Nat.{ℕ, zero, suc, _+_, _*_, _≤_, _<_}
+use Prim.Native.Nat.{ℕ, _*_, _<_}
 use native.Mathlib.Nat.{eq-zero-or-pos}
-use lib.IntN.{ℤ, pos, _+ℤ_, _*ℤ_, zero-*ℤ, *ℤ-comm}
+use lib.IntN.{ℤ, pos, _*ℤ_, zero-*ℤ, *ℤ-comm}
 use lib.Signed.{_≤ℤ_, ≤ℤ-refl}
 use Rattle.finite.specs.Range.{sum, sum2}
 use Rattle.finite.proofs.Order.{scale-mono}

@@ -1,4 +1,4 @@
--- Sums, tests, minima, counts and tables over the numbers 0 to n - 1, and over a grid of n columns and m rows.
+-- Sums, tests, minima, counts, tables and joined lists over the numbers 0 to n - 1, and over a grid of n columns and m rows.
 use mathlib.Core.Bool.{Bool, true, _&&_, cond}
 use mathlib.Core.List.{List, [], _∷_, _++_}
 use Prim.Native.Nat.{ℕ, zero, suc, _+_, min}
@@ -42,6 +42,11 @@ module _ {A : Type 0} where
   unfoldable pub tableFrom : ℕ → ℕ → (ℕ → A) → List A
   tableFrom i zero f = []
   tableFrom i (suc n) f = f i ∷ tableFrom (suc i) n f
+
+  -- the lists f 0, f 1, ..., f (n - 1), one after the other
+  unfoldable pub joined : ℕ → (ℕ → List A) → List A
+  joined zero f = []
+  joined (suc n) f = joined n f ++ f n
 
   -- m rows of n elements, row j first: in row b the elements f 0 b, ..., f (n - 1) b
   unfoldable pub rowsFrom : ℕ → ℕ → ℕ → (ℕ → ℕ → A) → List A

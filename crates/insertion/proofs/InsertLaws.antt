@@ -9,23 +9,15 @@ use lib.Dec.{leb, eqb}
 use lib.IntN.{ℤ}
 use lib.ListN.{length}
 use Rattle.surface.specs.Sheet.{Box}
-use Rattle.surface.specs.Table.{cause, _orElse_, slots, tableCause, Acceptable}
+use Rattle.surface.specs.Table.{cause, _orElse_, slots, tableCause}
 use Rattle.surface.specs.Calls.{refused, gives, answer, afterwards, put, boxCause, lengthCause, treeOutCause}
 use Rattle.surface.specs.Calls.{newTree, newCoefficients, insertCause, insertOutcome}
 use Rattle.surface.proofs.Least.{both}
-use Rattle.surface.proofs.TableLaws.{orElse-none, cause-none, good-side, Sound, sound}
+use Rattle.surface.proofs.TableLaws.{orElse-none, orElse-first, cause-none, Sound, sound, sides}
 use Rattle.quadtree.specs.Visit.{InSheet}
-use Rattle.answers.proofs.AnswerLaws.{first, refusal, kept}
+use Rattle.answers.proofs.AnswerLaws.{refusal, kept}
 use Rattle.table.proofs.CauseLaws.{box-none}
 use Rattle.insertion.specs.Inserted.{causeTo16, Given}
-
--- the sides of a table with none of the first five causes
-pub sides : (W H : ℕ) (t : List ℕ) (cs : List ℤ) → Acceptable W H t cs → (0 < W) × (W ≤ 8) × (0 < H) × (H ≤ 8)
-sides W H t cs e =
-    let s = sound W H t cs e in
-    let w = good-side W (s .side-W) in
-    let h = good-side H (s .side-H) in
-    (w .0, w .1, h .0, h .1)
 
 -- ---- causes 1 to 16
 
@@ -34,52 +26,69 @@ abbrev pub chain : ℕ → ℕ → Bool → Bool → Bool → ℕ
 chain t b low high exact = t orElse b orElse cause 8 (not (low && high)) orElse cause 16 (not exact)
 
 -- what holds of the arguments where none applies
-pub record Allowed (W H : ℕ) (t : List ℕ) (cs : List ℤ) (box : Box) (n len : ℕ) : Type 0 where
+pub record Allowed (W H : ℕ) (t : List ℕ) (cs : List ℤ) (box : Box) (n : ℕ) (numbersOut : List ℤ) : Type 0 where
   pub table : Sound W H t cs
   pub within : (0 < W) × (W ≤ 8) × (0 < H) × (H ≤ 8)
   pub inside : InSheet W H box
   pub level : n ≤ 3
-  pub size : len ≡ slots W H
+  pub size : length numbersOut ≡ slots W H
 
-module _ (W H : ℕ) (t : List ℕ) (cs : List ℤ) (box : Box) (n len : ℕ) where
-  pub at-table : (c : ℕ) → c ≡ tableCause W H t cs → (c ≡ 0 → ⊥) → c ≡ causeTo16 W H t cs box n len
+module _ (W H : ℕ) (t : List ℕ) (cs : List ℤ) (box : Box) (n : ℕ) (numbersOut : List ℤ) where
+  abbrev exactly : Bool
+  exactly = eqb (length numbersOut) (slots W H)
+
+  -- the tree output is long enough
+  by-tests : chain (tableCause W H t cs) (boxCause W H box) (leb 1 n) (leb n 3) exactly
+      ≡ causeTo16 W H t cs box n numbersOut
+  unfolding insertCause
+  by-tests =
+      let k = length (newTree t box n) in
+      ap (λ c. tableCause W H t cs orElse boxCause W H box orElse cause 8 (not (leb 1 n && leb n 3)) orElse c)
+      (last (cause 16 (not exactly)) (ap (cause 17) (sym (le-ltb k k (omega arith)))))
+    where
+      last : (c : ℕ) {d : ℕ} → 0 ≡ d → c ≡ c orElse d
+      last zero e = e
+      last (suc c) e = refl
+
+  pub at-table : (c : ℕ) → c ≡ tableCause W H t cs → (c ≡ 0 → ⊥) → c ≡ causeTo16 W H t cs box n numbersOut
   at-table c e h =
-      let rest = chain 0 (boxCause W H box) (leb 1 n) (leb n 3) (eqb len (slots W H)) in
-      first c rest h ∙ ap (λ c. c orElse rest) e
+      let rest = chain 0 (boxCause W H box) (leb 1 n) (leb n 3) exactly in
+      orElse-first c rest h ∙ ap (λ c. c orElse rest) e ∙ by-tests
 
   pub past-table : (b : ℕ) (low high exact : Bool) → 0 ≡ tableCause W H t cs → b ≡ boxCause W H box → low ≡ leb 1 n
-      → high ≡ leb n 3 → exact ≡ eqb len (slots W H) → chain 0 b low high exact ≡ causeTo16 W H t cs box n len
+      → high ≡ leb n 3 → exact ≡ exactly → chain 0 b low high exact ≡ causeTo16 W H t cs box n numbersOut
   past-table b low high exact e f p q r =
       ap₂ (λ t b. chain t b low high exact) e f
       ∙ ap₂ (λ low high. chain (tableCause W H t cs) (boxCause W H box) low high exact) p q
       ∙ ap (chain (tableCause W H t cs) (boxCause W H box) (leb 1 n) (leb n 3)) r
+      ∙ by-tests
 
   pub at-box : (b : ℕ) → 0 ≡ tableCause W H t cs → b ≡ boxCause W H box → (b ≡ 0 → ⊥)
-      → b ≡ causeTo16 W H t cs box n len
+      → b ≡ causeTo16 W H t cs box n numbersOut
   at-box b e f h =
-      first b (chain 0 0 (leb 1 n) (leb n 3) (eqb len (slots W H))) h
-      ∙ past-table b (leb 1 n) (leb n 3) (eqb len (slots W H)) e f refl refl refl
+      orElse-first b (chain 0 0 (leb 1 n) (leb n 3) exactly) h
+      ∙ past-table b (leb 1 n) (leb n 3) exactly e f refl refl refl
 
-  pub allowed : 0 ≡ causeTo16 W H t cs box n len → Allowed W H t cs box n len
+  pub allowed : 0 ≡ causeTo16 W H t cs box n numbersOut → Allowed W H t cs box n numbersOut
   allowed e =
       let c8 = cause 8 (not (leb 1 n && leb n 3)) in
-      let c16 = cause 16 (not (eqb len (slots W H))) in
-      let e5 = orElse-none (tableCause W H t cs) (boxCause W H box orElse c8 orElse c16) (sym e) in
+      let c16 = cause 16 (not exactly) in
+      let e5 = orElse-none (tableCause W H t cs) (boxCause W H box orElse c8 orElse c16) (by-tests ∙ sym e) in
       let e7 = orElse-none (boxCause W H box) (c8 orElse c16) (e5 .1) in
       let e8 = orElse-none c8 c16 (e7 .1) in
       record {
         table = sound W H t cs (e5 .0);
-        within = sides W H t cs (e5 .0);
+        within = sides (sound W H t cs (e5 .0));
         inside = box-none W H box (sym (e7 .0));
         level = leb-true n 3 (both (leb 1 n) (leb n 3) (cause-none 7 (leb 1 n && leb n 3) (e8 .0)) .1);
-        size = eqb-true len (slots W H) (cause-none 15 (eqb len (slots W H)) (e8 .1));
+        size = eqb-true (length numbersOut) (slots W H) (cause-none 15 exactly (e8 .1));
       }
 
 -- ---- the outcome
 
 module _ (W H : ℕ) (t : List ℕ) (cs : List ℤ) (box : Box) (n : ℕ) (treeOut : List ℕ) (numbersOut : List ℤ) where
   abbrev early : ℕ
-  early = causeTo16 W H t cs box n (length numbersOut)
+  early = causeTo16 W H t cs box n numbersOut
 
   abbrev late : ℕ
   late = treeOutCause (newTree t box n) treeOut
@@ -87,7 +96,9 @@ module _ (W H : ℕ) (t : List ℕ) (cs : List ℤ) (box : Box) (n : ℕ) (treeO
   -- 17 is the last cause
   whole : early orElse late ≡ insertCause W H t cs box n treeOut numbersOut
   unfolding insertCause
-  whole = go (tableCause W H t cs) (boxCause W H box) (cause 8 (not (leb 1 n && leb n 3)))
+  whole =
+      ap (λ c. c orElse late) (sym (by-tests W H t cs box n numbersOut))
+      ∙ go (tableCause W H t cs) (boxCause W H box) (cause 8 (not (leb 1 n && leb n 3)))
     where
       go : (a b c : ℕ) → (a orElse b orElse c orElse lengthCause (slots W H) numbersOut) orElse late
           ≡ a orElse b orElse c orElse lengthCause (slots W H) numbersOut orElse late
@@ -109,7 +120,7 @@ module _ (W H : ℕ) (t : List ℕ) (cs : List ℤ) (box : Box) (n : ℕ) (treeO
 
   pub refused-early : (c : ℕ) → c ≡ early → (c ≡ 0 → ⊥)
       → Given (insertOutcome W H t cs box n treeOut numbersOut) (refused c) treeOut numbersOut
-  refused-early c e h = at-cause c (first c late h ∙ ap (λ c. c orElse late) e ∙ whole) h
+  refused-early c e h = at-cause c (orElse-first c late h ∙ ap (λ c. c orElse late) e ∙ whole) h
 
   pub refused-17 : 0 ≡ early → length treeOut < length (newTree t box n)
       → Given (insertOutcome W H t cs box n treeOut numbersOut) (refused 17) treeOut numbersOut

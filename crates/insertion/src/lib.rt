@@ -2,7 +2,6 @@
 ghost use mathlib.Core.Path.{_≡_};
 ghost use mathlib.Core.List.{List};
 ghost use Prim.Native.Nat.{ℕ};
-ghost use lib.ListN.{length};
 ghost use Rattle.demands.specs.Promises.{InsertPromise};
 ghost use Rattle.quadtree.specs.Paint.{levelMap};
 ghost use Rattle.quadtree.specs.Visit.{boxOf};
@@ -17,10 +16,11 @@ fn insert_cause(
     cs: &[i64],
     a: quadtree::visit::Area,
     level: usize,
-    len: usize,
+    numbers_out: &[i64],
     map: &mut [u8; 1024],
 ) -> u8
-    ensures { λ r. ⌜ (r ≡ causeTo16 w h (now (tree .entry)) (now (cs .entry)) (boxOf a) level len)
+    ensures { λ r. ⌜ (r ≡ causeTo16 w h (now (tree .entry)) (now (cs .entry)) (boxOf a) level
+        (now («numbers_out» .entry)))
         × (r ≡ 0 → now (map .exit) ≡ levelMap (now (tree .entry))) ⌝ }
 {
     let refusal = table::cause::check(w, h, tree, cs, map);
@@ -37,7 +37,7 @@ fn insert_cause(
     if 3 < level {
         return 8;
     }
-    if len != coefficients::start(w, h, 4) {
+    if numbers_out.len() != coefficients::start(w, h, 4) {
         return 16;
     }
     0
@@ -48,26 +48,27 @@ fn insert_box(
     w: usize,
     h: usize,
     cs: &[i64],
-    map: [u8; 1024],
+    map: &[u8; 1024],
     a: quadtree::visit::Area,
     level: u8,
     tree_out: &mut [u8],
     numbers_out: &mut [i64],
 ) -> answers::Length
-    requires { ⌜ ((t : List ℕ) × Insertable w h t (now cs) (boxOf a) level (length (now «numbers_out»)) map) ⌝ }
-    ensures { λ r. ⌜ Inserts w h map (now (cs .entry)) (boxOf a) level (now («tree_out» .entry))
+    requires { ⌜ ((t : List ℕ) × Insertable w h t (now cs) (boxOf a) level (now «numbers_out») (now map)) ⌝ }
+    ensures { λ r. ⌜ Inserts w h (now (map .entry)) (now (cs .entry)) (boxOf a) level (now («tree_out» .entry))
         (now («numbers_out» .entry)) (lengthAnswer r) (now («tree_out» .exit)) (now («numbers_out» .exit)) ⌝ }
 {
-    let mut new = map;
-    regions::raise::raise(&mut new, a, level);
+    let mut raised = *map;
+    regions::raise::raise(&mut raised, a, level);
+    let new = &raised;
     let mut built = [0u8; 1365];
-    let n = regions::build::build(&new, &mut built);
+    let n = regions::build::build(new, &mut built);
     if tree_out.len() < n {
         return answers::Length::Refused(17);
     }
-    regions::put::put(&built, n, tree_out);
-    carry::carry::carry_all(cs, &map, w, h, numbers_out);
-    carry::clear::clear_passive(numbers_out, &new, w, h);
+    regions::put::put(&built[0..n], tree_out);
+    carry::carry::carry_all(cs, map, w, h, numbers_out);
+    carry::clear::clear_passive(numbers_out, new, w, h);
     answers::Length::Bytes(n)
 }
 
@@ -97,9 +98,9 @@ pub fn insert(
 {
     let mut map = [0u8; 1024];
     let a = quadtree::visit::Area { u0, v0, u1, v1 };
-    let cause = insert_cause(w, h, tree, cs, a, level, numbers_out.len(), &mut map);
+    let cause = insert_cause(w, h, tree, cs, a, level, numbers_out, &mut map);
     if cause != 0 {
         return answers::Length::Refused(cause);
     }
-    insert_box(w, h, cs, map, a, level as u8, tree_out, numbers_out)
+    insert_box(w, h, cs, &map, a, level as u8, tree_out, numbers_out)
 }

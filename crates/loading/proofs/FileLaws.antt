@@ -24,7 +24,7 @@ use Rattle.activity.specs.Minima.{levelsOf}
 use Rattle.table.proofs.CauseLaws.{map-least}
 use Rattle.loading.specs.Fields.{bodyAt}
 use Rattle.loading.specs.Levels.{levelLoaded}
-use Rattle.loading.specs.Judged.{treeIn, holds}
+use Rattle.loading.specs.Judged.{treeIn, levelsHold}
 use Rattle.loading.proofs.FieldLaws.{body-length}
 
 -- ---- a file that is not declined
@@ -138,7 +138,7 @@ pub record Loading (file : List ℕ) (from W H L at : ℕ) (old numbers found : 
   pub rest : levelFields W H (treeIn file from) (4 - L) L before (drop at file)
       ≡ contains (record { W = W; H = H; tree = treeIn file from; numbers = found })
 
-pub loading-none : (file : List ℕ) (from W H : ℕ) (old found : List ℤ) → holds file from W H found
+pub loading-none : (file : List ℕ) (from W H : ℕ) (old found : List ℤ) → levelsHold file from W H found
     → Loading file from W H 0 from old old found
 unfolding start
 loading-none file from W H old found h = record { before = []; size = refl; written = refl; rest = h }

@@ -1,5 +1,5 @@
 -- What each judged field says of the file's contents, one law for each way out of the judging functions.
-use mathlib.Core.Path.{_≡_, sym, ap, ap₂, _∙_, subst}
+use mathlib.Core.Path.{_≡_, sym, ap, _∙_, subst}
 use mathlib.Core.Bool.{true, false, not, _&&_, and-false}
 use mathlib.Core.List.{List, [], _++_}
 use Prim.Native.Nat.{ℕ, suc, _+_, _-_, _*_, _≤_, _<_}
@@ -9,7 +9,7 @@ use native.Mathlib.Omega.{arith}
 use borrow.Author.Tests.{eq-eqb, ne-eqb, lt-leb, le-leb}
 use lib.Dec.{leb, eqb}
 use lib.IntN.{ℤ}
-use lib.ListN.{length, drop}
+use lib.ListN.{length, getD, take, drop}
 use lib.Seq.{getD-drop, getD-take}
 use Rattle.surface.specs.Sheet.{goodSide}
 use Rattle.surface.specs.Table.{cause, treeOf, formed, levels}
@@ -22,7 +22,7 @@ use Rattle.loading.specs.declared.field.Field as F
 use Rattle.loading.specs.declared.field.Field.{Field}
 use Rattle.loading.specs.Fields.{between, bodyAt, fieldAt, ends}
 use Rattle.loading.specs.Levels.{levelLoaded}
-use Rattle.loading.specs.Judged.{sheetW, sheetH, treeIn, fromTree, Sides, sidesJudged, Tree, treeJudged}
+use Rattle.loading.specs.Judged.{sheetW, sheetH, treeIn, Sides, sidesJudged}
 use Rattle.loading.specs.Judged.{Head, headJudged, levelJudged, levelsJudged}
 
 -- ---- an exact length is one between itself and itself
@@ -48,20 +48,20 @@ known file at q e = sym (ap (λ r. fieldAt r file at) q) ∙ e
 -- ---- the sides
 
 module _ (file : List ℕ) where
+  first-side : getD (take 2 (drop 3 file)) 0 0 ≡ sheetW file
+  first-side = getD-take 2 (drop 3 file) 0 0 (omega arith) ∙ getD-drop 3 file 0 0
+
+  second-side : getD (take 2 (drop 3 file)) 1 0 ≡ sheetH file
+  second-side = getD-take 2 (drop 3 file) 1 0 (omega arith) ∙ getD-drop 3 file 1 0
+
   contents-faulty : (n : ℕ) → faulty n ≡ field 1 (between 2 2) file → fileContents file ≡ declined n
   unfolding fileContents
   contents-faulty n e = rw (exact-field 1 2 file, ← e)
 
-  contents-body : body (bodyAt file 0 5) (drop 5 file) ≡ field 1 (between 2 2) file
-      → fileContents file
-      ≡ fileOr (cause 1 (not (goodSide (sheetW file) && goodSide (sheetH file))))
-      (fromTree (sheetW file) (sheetH file) (drop 5 file))
+  bad-sides : field 1 (λ n. eqb n 2) file ≡ body (take 2 (drop 3 file)) (drop 5 file)
+      → (goodSide (sheetW file) && goodSide (sheetH file)) ≡ false → fileContents file ≡ declined 1
   unfolding fileContents
-  contents-body e =
-      rw (exact-field 1 2 file, ← e)
-      (ap₂ (λ W H. fileOr (cause 1 (not (goodSide W && goodSide H))) (fromTree W H (drop 5 file)))
-      (getD-take 2 (drop 3 file) 0 0 (omega arith) ∙ getD-drop 3 file 0 0)
-      (getD-take 2 (drop 3 file) 1 0 (omega arith) ∙ getD-drop 3 file 1 0))
+  bad-sides e u = rw (e, first-side, second-side, u)
 
   module _ (r : Field) (e : fieldAt r file 0 ≡ field 1 (between 2 2) file) where
     pub sides-faulty : (n : ℕ) → r ≡ F.the-variants.Faulty n → sidesJudged r file
@@ -74,38 +74,39 @@ module _ (file : List ℕ) where
           let b : ends (F.the-variants.Body end) file 0 2 2 = subst (λ r. ends r file 0 2 2) q k in
           (omega (arith, b .0, b .1), omega (arith, b .0, b .2))
 
-      found : fileContents file
-          ≡ fileOr (cause 1 (not (goodSide (sheetW file) && goodSide (sheetH file))))
-          (fromTree (sheetW file) (sheetH file) (drop 5 file))
+      found : field 1 (λ n. eqb n 2) file ≡ body (take 2 (drop 3 file)) (drop 5 file)
       found =
-          contents-body
-          (ap (λ end. body (bodyAt file 0 end) (drop end file)) (sym (sides-size .0)) ∙ known file 0 q e)
+          exact-field 1 2 file
+          ∙ sym (known file 0 q e)
+          ∙ ap (λ end. body (bodyAt file 0 end) (drop end file)) (sides-size .0)
 
       pub sides-good : goodSide (sheetW file) ≡ true → goodSide (sheetH file) ≡ true → sidesJudged r file
       sides-good u v =
-          let w = good-side (sheetW file) u in
           subst (λ r. sidesJudged r file) (sym q)
-          (record {
-            size = sides-size .1;
-            positive = w .0;
-            small-W = w .1;
-            small-H = good-side (sheetH file) v .1;
-            contents = found ∙ rw (u, v);
-          })
+          (record { size = sides-size .1; sides = found; good-W = u; good-H = v })
 
       pub bad-W : goodSide (sheetW file) ≡ false → fileContents file ≡ declined 1
-      bad-W u = found ∙ rw u
+      bad-W u = bad-sides found (rw u)
 
       pub bad-H : goodSide (sheetH file) ≡ false → fileContents file ≡ declined 1
-      bad-H v = found ∙ rw (v, and-false (goodSide (sheetW file)))
+      bad-H v = bad-sides found (rw (v, and-false (goodSide (sheetW file))))
 
 -- ---- the tree
 
-module _ (file : List ℕ) (W H : ℕ) (r : Field) (e : fieldAt r file 5 ≡ field 2 (between 1 1365) (drop 5 file)) where
-  pub tree-faulty : (map : List ℕ) (n : ℕ) → r ≡ F.the-variants.Faulty n → treeJudged r file W H map
+pub head-faulty : (file map : List ℕ) (r : Field) (n : ℕ) → r ≡ F.the-variants.Faulty n → sidesJudged r file
+    → headJudged r file map
+head-faulty file map r n q s =
+    subst (λ r. headJudged r file map) (sym q) (subst (λ r. sidesJudged r file) q s)
+
+module _ (file : List ℕ) (s : Sides file) (r : Field)
+    (e : fieldAt r file 5 ≡ field 2 (between 1 1365) (drop 5 file)) where
+  pub tree-faulty : (map : List ℕ) (n : ℕ) → r ≡ F.the-variants.Faulty n → headJudged r file map
+  unfolding fileContents
   tree-faulty map n q =
       let f : faulty n ≡ field 2 (between 1 1365) (drop 5 file) = known file 5 q e in
-      subst (λ r. treeJudged r file W H map) (sym q) (rw (← f))
+      let c : fileContents file ≡ declined n =
+      rw (s .sides, first-side file, second-side file, s .good-W, s .good-H, ← f) in
+      subst (λ r. headJudged r file map) (sym q) c
 
   module _ (end : ℕ) (q : r ≡ F.the-variants.Body end) (k : ends r file 5 1 1365) where
     pub tree-size : (8 ≤ end) × (end ≤ length file)
@@ -113,47 +114,32 @@ module _ (file : List ℕ) (W H : ℕ) (r : Field) (e : fieldAt r file 5 ≡ fie
         let b : ends (F.the-variants.Body end) file 5 1 1365 = subst (λ r. ends r file 5 1 1365) q k in
         (omega (arith, b .0), b .2)
 
-    here : fromTree W H (drop 5 file)
-        ≡ fileOr (cause 2 (not (formed W H (treeOf (treeIn file end)))))
-        (levelFields W H (treeIn file end) 4 0 [] (drop end file))
+    here : fileContents file
+        ≡ fileOr (cause 2 (not (formed (sheetW file) (sheetH file) (treeOf (treeIn file end)))))
+        (levelFields (sheetW file) (sheetH file) (treeIn file end) 4 0 [] (drop end file))
+    unfolding fileContents
     here =
         let f : body (bodyAt file 5 end) (drop end file) ≡ field 2 (between 1 1365) (drop 5 file) =
         known file 5 q e in
-        rw (← f)
+        rw (s .sides, first-side file, second-side file, s .good-W, s .good-H, ← f)
 
-    pub tree-good : (map : List ℕ) → formed W H (treeOf (treeIn file end)) ≡ true → map ≡ levelMap (treeIn file end)
-        → Tree file end W H map
-    tree-good map u p =
-        record { low = tree-size .0; size = tree-size .1; painted = p; contents = here ∙ rw u }
+    module _ (W H : ℕ) (first : W ≡ sheetW file) (second : H ≡ sheetH file) where
+      pub tree-good : (map : List ℕ) → formed W H (treeOf (treeIn file end)) ≡ true
+          → map ≡ levelMap (treeIn file end) → Head file end (sheetW file) (sheetH file) map
+      tree-good map u painted =
+          let w = good-side (sheetW file) (s .good-W) in
+          record {
+            positive = w .0;
+            small-W = w .1;
+            small-H = good-side (sheetH file) (s .good-H) .1;
+            low = tree-size .0;
+            size = tree-size .1;
+            painted = painted;
+            contents = here ∙ rw (← first, ← second, u);
+          }
 
-    pub tree-bad : formed W H (treeOf (treeIn file end)) ≡ false → fromTree W H (drop 5 file) ≡ declined 2
-    tree-bad u = here ∙ rw u
-
--- ---- both
-
-pub head-faulty : (file map : List ℕ) (r : Field) (n : ℕ) → r ≡ F.the-variants.Faulty n → sidesJudged r file
-    → headJudged r file map
-head-faulty file map r n q s =
-    subst (λ r. headJudged r file map) (sym q) (subst (λ r. sidesJudged r file) q s)
-
-pub head-of : (file map : List ℕ) (r : Field) (W H : ℕ) → Sides file → W ≡ sheetW file → H ≡ sheetH file
-    → treeJudged r file W H map → headJudged r file map
-head-of file map r W H s p q j =
-    go r
-    (subst (λ W. treeJudged r file W (sheetH file) map) p (subst (λ H. treeJudged r file W H map) q j))
-  where
-    go : (r : Field) → treeJudged r file (sheetW file) (sheetH file) map → headJudged r file map
-    go (F.the-variants.Body end) j =
-        record {
-          positive = s .positive;
-          small-W = s .small-W;
-          small-H = s .small-H;
-          low = j .low;
-          size = j .size;
-          painted = j .painted;
-          contents = s .contents ∙ j .contents;
-        }
-    go (F.the-variants.Faulty n) j = s .contents ∙ j
+      pub tree-bad : formed W H (treeOf (treeIn file end)) ≡ false → fileContents file ≡ declined 2
+      tree-bad u = here ∙ rw (← first, ← second, u)
 
 -- by the sides as they were read
 pub head-same : (file map : List ℕ) (end W H : ℕ) → W ≡ sheetW file → H ≡ sheetH file

@@ -1,27 +1,21 @@
--- Laws of loading: a tree put at the front, and a level's coefficients row by row.
+-- Laws of loading: a level's coefficients row by row.
 use mathlib.Core.Path.{_≡_, ap, ap₂, subst}
 use mathlib.Core.Bool.{cond}
-use mathlib.Core.List.{List, _++_}
+use mathlib.Core.List.{List}
 use Prim.Native.Nat.{ℕ, _+_, _≤_, _<_}
 use native.Mathlib.Omega.{arith}
 use lib.Dec.{eqb}
 use lib.IntN.{pos}
-use lib.ListN.{length, getD, drop}
-use lib.Seq.{take-length}
+use lib.ListN.{getD}
 use Rattle.finite.specs.Range.{total, tableFrom}
 use Rattle.finite.proofs.Table.{table-cong}
 use Rattle.finite.proofs.Tests.{count-cong}
 use Rattle.surface.specs.Sheet.{functions}
 use Rattle.surface.specs.Support.{active, leastUnder}
-use Rattle.surface.specs.Calls.{put}
 use Rattle.surface.specs.TableFile.{numberAt, activeInRow, activeCount, activeBefore, loaded}
 use Rattle.activity.specs.Minima.{levelsOf, RowMinima, SupportMinima}
-use Rattle.regions.proofs.PutLaws.{front}
 use Rattle.loading.specs.Levels.{is, rowLoadedAt, rowLoaded}
 use Rattle.loading.proofs.CountLaws.{total-within}
-
-pub front-whole : (tree out : List ℕ) → front (length tree) tree out ≡ put tree out
-front-whole tree out = ap (λ t. t ++ drop (length tree) out) (take-length tree)
 
 -- the active functions of the rows below b
 abbrev pub rowsBefore : ℕ → ℕ → (ℕ → ℕ → ℕ) → ℕ → ℕ → ℕ

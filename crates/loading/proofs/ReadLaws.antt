@@ -2,7 +2,7 @@
 use mathlib.Core.Path.{_≡_, refl, sym, ap, ap₂, _∙_}
 use mathlib.Core.Bool.{Bool, true, false, not}
 use mathlib.Core.List.{List, []}
-use Prim.Native.Nat.{ℕ, suc, _-_, _≤_}
+use Prim.Native.Nat.{ℕ, _-_, _≤_}
 use native.Mathlib.Omega.{arith}
 use borrow.Author.Tests.{ltb-false, eqb-true}
 use lib.Dec.{ltb, eqb}
@@ -13,8 +13,9 @@ use Rattle.surface.specs.Calls.{refused, gives, answer, afterwards, put, writte
 use Rattle.surface.specs.TableFile.{declined, contains, fileOr, levelFields, fileContents}
 use Rattle.surface.specs.TableFile.{FileResult, fileOutcomeOf, fileOutcome}
 use Rattle.surface.proofs.TableLaws.{orElse-none, cause-none}
+use Rattle.surface.proofs.Refusals.{cause-off}
 use Rattle.answers.proofs.AnswerLaws.{refusal, kept}
-use Rattle.loading.specs.Judged.{treeIn, holds, lastly}
+use Rattle.loading.specs.Judged.{treeIn, levelsHold, lastly}
 
 pub read-declined : (file tree : List ℕ) (numbers : List ℤ) (n : ℕ) → fileContents file ≡ declined n
     → (refused n ≡ (fileOutcome file tree numbers) .result)
@@ -91,18 +92,14 @@ module _ (file : List ℕ) (end last W H : ℕ) (tree : List ℕ) (numbers found
       let third = cause 17 (ltb (length tree) (end - 8)) in
       let s = orElse-none first (second orElse third) (sym q) in
       let u = orElse-none second third (s .1) in (
-        none 14 (ltb 0 (length file - last)) (s .0),
+        cause-off 14 (ltb 0 (length file - last)) (s .0),
         eqb-true (length numbers) (slots W H) (cause-none 15 (eqb (length numbers) (slots W H)) (u .0)),
-        ltb-false (length tree) (end - 8) (none 16 (ltb (length tree) (end - 8)) (u .1)),
+        ltb-false (length tree) (end - 8) (cause-off 16 (ltb (length tree) (end - 8)) (u .1)),
       )
-    where
-      none : (n : ℕ) (b : Bool) → cause (suc n) b ≡ 0 → b ≡ false
-      none n true h = absurd (omega arith)
-      none n false h = refl
 
 pub fields-hold : (file : List ℕ) (end last W H : ℕ) (found : List ℤ)
     → levelFields W H (treeIn file end) 4 0 [] (drop end file)
     ≡ levelFields W H (treeIn file end) 0 4 found (drop last file)
-    → ltb 0 (length file - last) ≡ false → holds file end W H found
+    → ltb 0 (length file - last) ≡ false → levelsHold file end W H found
 fields-hold file end last W H found e h =
     e ∙ none-left W H (treeIn file end) (drop last file) found (ap (λ n. ltb 0 n) (length-drop last file) ∙ h)

@@ -1,13 +1,14 @@
 -- What a judged part of the file says of the file's contents: the rest of them, or that the file is declined.
 use mathlib.Core.Path.{_≡_}
-use mathlib.Core.Bool.{not, _&&_}
+use mathlib.Core.Bool.{true, not}
 use mathlib.Core.List.{List, [], _++_}
 use Prim.Native.Nat.{ℕ, suc, _-_, _≤_, _<_}
-use lib.Dec.{leb, ltb, eqb}
+use lib.Dec.{ltb, eqb}
 use lib.IntN.{ℤ}
 use lib.ListN.{length, getD, take, drop}
-use Rattle.surface.specs.Table.{cause, _orElse_, treeOf, formed, levels}
-use Rattle.surface.specs.TableFile.{File, declined, contains, fileOr, inField, field, levelFields, fileContents}
+use Rattle.surface.specs.Sheet.{goodSide}
+use Rattle.surface.specs.Table.{cause, _orElse_, levels}
+use Rattle.surface.specs.TableFile.{body, declined, contains, field, levelFields, fileContents}
 use Rattle.surface.specs.TableFile.{fileOutcome}
 use Rattle.answers.specs.declared.File as Answers
 use Rattle.answers.specs.Answers.{fileAnswer}
@@ -31,36 +32,19 @@ treeIn file end = take (end - 8) (drop 8 file)
 
 -- ---- the sides
 
--- the contents from the tree's field on
-abbrev pub fromTree : ℕ → ℕ → List ℕ → File
-fromTree W H s =
-    inField (field 2 (λ n. leb 1 n && leb n 1365) s) λ t rest.
-    fileOr (cause 2 (not (formed W H (treeOf t)))) (levelFields W H t 4 0 [] rest)
-
+-- the field of the sides is whole, and both are good
 pub record Sides (file : List ℕ) : Type 0 where
   pub size : 5 ≤ length file
-  pub positive : 0 < sheetW file
-  pub small-W : sheetW file ≤ 8
-  pub small-H : sheetH file ≤ 8
-  pub contents : fileContents file ≡ fromTree (sheetW file) (sheetH file) (drop 5 file)
+  pub sides : field 1 (λ n. eqb n 2) file ≡ body (take 2 (drop 3 file)) (drop 5 file)
+  pub good-W : goodSide (sheetW file) ≡ true
+  pub good-H : goodSide (sheetH file) ≡ true
 
 abbrev pub sidesJudged : Field → List ℕ → Type 0
 sidesJudged (F.the-variants.Body end) file = Sides file
 sidesJudged (F.the-variants.Faulty c) file = fileContents file ≡ declined c
 
--- ---- the tree
+-- ---- the tree after them
 
-pub record Tree (file : List ℕ) (end W H : ℕ) (map : List ℕ) : Type 0 where
-  pub low : 8 ≤ end
-  pub size : end ≤ length file
-  pub painted : map ≡ levelMap (treeIn file end)
-  pub contents : fromTree W H (drop 5 file) ≡ levelFields W H (treeIn file end) 4 0 [] (drop end file)
-
-abbrev pub treeJudged : Field → List ℕ → ℕ → ℕ → List ℕ → Type 0
-treeJudged (F.the-variants.Body end) file W H map = Tree file end W H map
-treeJudged (F.the-variants.Faulty c) file W H map = fromTree W H (drop 5 file) ≡ declined c
-
--- both
 pub record Head (file : List ℕ) (end W H : ℕ) (map : List ℕ) : Type 0 where
   pub positive : 0 < W
   pub small-W : W ≤ 8
@@ -99,8 +83,8 @@ levelsJudged (F.the-variants.Body last) file at W H t = levelsEnd file at last W
 levelsJudged (F.the-variants.Faulty c) file at W H t = levelFields W H t 4 0 [] (drop at file) ≡ declined c
 
 -- the fields from a position on hold these coefficients
-abbrev pub holds : List ℕ → ℕ → ℕ → ℕ → List ℤ → Type 0
-holds file end W H numbers =
+abbrev pub levelsHold : List ℕ → ℕ → ℕ → ℕ → List ℤ → Type 0
+levelsHold file end W H numbers =
     levelFields W H (treeIn file end) 4 0 [] (drop end file)
     ≡ contains (record { W = W; H = H; tree = treeIn file end; numbers = numbers })
 

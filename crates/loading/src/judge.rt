@@ -9,7 +9,8 @@ ghost use Prim.Native.Nat.{ℕ, _≤_, _<_};
 ghost use lib.ListN.{length};
 ghost use Rattle.surface.specs.Table.{treeOf, formed};
 ghost use Rattle.quadtree.specs.Paint.{levelMap};
-ghost use Rattle.loading.specs.Judged.{sidesJudged, treeJudged, headJudged, inFile, levelJudged, levelsJudged};
+ghost use Rattle.loading.specs.Judged.{sheetW, sheetH, Sides, sidesJudged, headJudged};
+ghost use Rattle.loading.specs.Judged.{inFile, levelJudged, levelsJudged};
 
 // The field of the sides, and the sides in it.
 fn sides_judge(file: &[u8]) -> Field
@@ -42,10 +43,10 @@ fn formed_map(t: &[u8], w: usize, h: usize, map: &mut [u8; 1024]) -> bool
     false
 }
 
-// The field of the tree, and the tree in it.
+// The field of the tree after good sides, and the tree in it.
 fn tree_judge(file: &[u8], w: usize, h: usize, map: &mut [u8; 1024]) -> Field
-    requires { ⌜ (5 ≤ length (now file)) × (w ≤ 8) × (h ≤ 8) ⌝ }
-    ensures { λ r. ⌜ treeJudged r (now (file .entry)) w h (now (map .exit)) ⌝ }
+    requires { ⌜ Sides (now file) × (w ≡ sheetW (now file)) × (h ≡ sheetH (now file)) ⌝ }
+    ensures { λ r. ⌜ headJudged r (now (file .entry)) (now (map .exit)) ⌝ }
 {
     let f = field_at(file, 5, 2, 1, 1365);
     let Field::Body(end) = f else {

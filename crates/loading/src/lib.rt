@@ -5,7 +5,6 @@ mod field;
 mod judge;
 mod load;
 mod number;
-mod put;
 
 use bytes::wide;
 use field::Field;
@@ -60,7 +59,7 @@ fn fill(
     if cause != 0 {
         return answers::File::Refused(cause);
     }
-    put::put(&file[8..end], tree_out);
+    regions::put::put(&file[8..end], tree_out);
     load::load_levels(file, end, map, w, h, numbers_out);
     answers::File::Loaded {
         length: bytes,

@@ -8,7 +8,7 @@ ghost use Rattle.finite.specs.Range.{count};
 ghost use Rattle.surface.specs.Table.{places, slots};
 ghost use Rattle.surface.specs.TableFile.{activeCount};
 ghost use Rattle.activity.specs.Minima.{levelsOf};
-ghost use Rattle.loading.specs.Judged.{Head, holds};
+ghost use Rattle.loading.specs.Judged.{Head, levelsHold};
 ghost use Rattle.loading.specs.Levels.{is, rowLoaded, levelLoaded};
 
 // Loads a row from the numbers of the body from `next` on, and returns the place of the first number left.
@@ -64,8 +64,8 @@ pub fn load_levels(
     numbers: &mut [i64],
 )
     requires { ⌜ Head (now file) from w h (now map) × (length (now numbers) ≡ slots w h)
-        × ((found : List ℤ) × holds (now file) from w h found) ⌝ }
-    ensures { λ _. ⌜ ((found : List ℤ) → holds (now (file .entry)) from w h found
+        × ((found : List ℤ) × levelsHold (now file) from w h found) ⌝ }
+    ensures { λ _. ⌜ ((found : List ℤ) → levelsHold (now (file .entry)) from w h found
         → now (numbers .exit) ≡ found) ⌝ }
 {
     let mut at = from;

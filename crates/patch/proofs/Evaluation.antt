@@ -1,15 +1,15 @@
 -- The four splines of a cell, and a weighted sum of weighted sums, are document 01's evaluation of a patch.
 use mathlib.Core.Path.{_≡_, refl, sym, ap, _∙_}
 use mathlib.Core.List.{List, [], _∷_}
-use Prim.Native.Nat.{ℕ, zero, suc, _+_, _-_, _*_, _^_, _≤_, _<_}
-use native.Mathlib.Nat.{le-refl, le-trans, mul-le-mul-right}
+use Prim.Native.Nat.{ℕ, _+_, _-_, _*_, _^_, _≤_, _<_}
+use native.Mathlib.Nat.{le-refl, mul-le-mul-right}
 use native.Mathlib.Omega.{arith}
-use lib.Dec.{lit<, lit≤}
+use lib.Dec.{lit<}
 use lib.IntN.{ℤ, pos, natAbs, _+ℤ_, _*ℤ_, +ℤ-idl}
 use lib.ListN.{getD}
 use mir.Syntax.{w64}
-use mir.Val.{toZ, ofZ}
-use Rattle.finite.specs.Range.{sum, sum2}
+use mir.Val.{toZ}
+use Rattle.finite.specs.Range.{sum}
 use Rattle.finite.proofs.Sum.{sum-cong}
 use Rattle.surface.specs.Spline.{piece}
 use Rattle.surface.proofs.SplinePiece.{piece-0, piece-1, piece-2, piece-3, piece-sum}
@@ -93,11 +93,3 @@ evaluates p r s =
     (λ k. pos (piece k r 16) *ℤ sum 4 (λ l. pos (piece l s 16) *ℤ entry p k l))
     (λ k hk. ap (λ z. pos (piece k r 16) *ℤ z) (row-at p s k hk ∙ weighed-sum s (getD p k [])))
     ∙ nested 4 4 (λ k. piece k r 16) (λ l. piece l s 16) (entry p)
-
--- for callers: the value is at most 24576² times the bound
-pub evaluated-bounded : (m r s : ℕ) (p : List (List ℤ)) (x : ℤ) → r ≤ 16 → s ≤ 16 → Bounded m p → Evaluated p r s x
-    → natAbs x ≤ 603979776 * m
-evaluated-bounded m r s p x hr hs b e =
-    let n =
-    weighed-size (24576 * m) (splinesOf r) (rowsOf p s) (weights r hr) (rows-size m p s hs b) in
-    rw (e ∙ sym (evaluates p r s)) (omega arith)

@@ -1,6 +1,6 @@
 -- Four in a row: what holds of each of them, and sums in two directions.
-use mathlib.Core.Path.{_≡_, refl, sym, ap, _∙_}
-use mathlib.Core.List.{List, [], _∷_}
+use mathlib.Core.Path.{_≡_, sym, _∙_}
+use mathlib.Core.List.{[], _∷_}
 use Prim.Native.Nat.{ℕ, _*_}
 use lib.IntN.{ℤ, pos, _*ℤ_}
 use Rattle.finite.specs.Range.{sum, sum2}

@@ -145,12 +145,3 @@ step-bounded m p g hg h k l hk hl =
     rw (step-row p g k hk)
     (children-size m g (entry p 0 k) (entry p 1 k) (entry p 2 k) (entry p 3 k)
     (h 0 k (lit< tt) hk) (h 1 k (lit< tt) hk) (h 2 k (lit< tt) hk) (h 3 k (lit< tt) hk) hg l hl)
-
--- for callers: a step of subdivision makes entries at most 64 times larger
-pub subdivided-bounded : (m g h : ℕ) (p r : List (List ℤ)) → g ≤ 1 → h ≤ 1 → Bounded m p → Subdivided g h p r
-    → Bounded (64 * m) r
-subdivided-bounded m g h p r hg hh b s k l hk hl =
-    let e : entry r k l ≡ entry (alongOf (alongOf p g) h) k l =
-    s k l hk hl ∙ sym (subdivides p g h hg hh k l hk hl) in
-    let n = step-bounded (8 * m) (alongOf p g) h hh (step-bounded m p g hg b) k l hk hl in
-    rw e (omega arith)

@@ -3,7 +3,7 @@ use mathlib.Core.Path.{_≡_}
 use mathlib.Core.List.{List, []}
 use Prim.Native.Nat.{ℕ, _*_, _≤_, _<_}
 use lib.IntN.{ℤ, pos, natAbs, _*ℤ_}
-use lib.ListN.{length, getD}
+use lib.ListN.{getD}
 use Rattle.finite.specs.Range.{sum2}
 use Rattle.surface.specs.Spline.{piece}
 use Rattle.surface.specs.Patch.{subdivided}

@@ -18,12 +18,12 @@ use Rattle.surface.specs.Table.{levels, coefficients, limit, slots, Acceptable,
 use Rattle.surface.proofs.Least.{and-intro}
 use Rattle.surface.proofs.SplineCell.{cell-inside}
 use Rattle.surface.proofs.PatchReading.{subdivided-cong}
-use Rattle.surface.proofs.TableLaws.{good-side, sound}
+use Rattle.surface.proofs.TableLaws.{sound, sides}
 use Rattle.surface.proofs.Demands.{patch-evaluates}
-use Rattle.quadtree.specs.Paint.{levelMap}
 use Rattle.activity.specs.Minima.{levelsOf}
 use Rattle.patch.specs.Patches.{entry, Bounded, Evaluated}
 use Rattle.table.proofs.CauseLaws.{map-least}
+use Rattle.point.specs.Painted.{Painted}
 use Rattle.point.specs.Patches.{chosen, PatchAt}
 
 -- ---- one level on
@@ -76,8 +76,7 @@ steps-left n u a p h e = let i = cell-inside n 3 u p h (lit≤ tt) in (omega ari
 
 -- a point of the sheet, and a tree that the map was painted from and with which the table is acceptable
 abbrev pub Readable : ℕ → ℕ → List ℕ → List ℤ → ℕ → ℕ → Type 0
-Readable W H map cs u v =
-    (u ≤ 128 * W) × (v ≤ 128 * H) × ((t : List ℕ) × (map ≡ levelMap t) × Acceptable W H t cs)
+Readable W H map cs u v = (u ≤ 128 * W) × (v ≤ 128 * H) × Painted W H map cs
 
 module _ (W H : ℕ) (map : List ℕ) (cs : List ℤ) (u v : ℕ) (given : Readable W H map cs u v) where
   abbrev t : List ℕ
@@ -89,9 +88,9 @@ module _ (W H : ℕ) (map : List ℕ) (cs : List ℤ) (u v : ℕ) (given : Reada
   by-tree : (L k l : ℕ) → k < 4 → l < 4
       → patch W H (levelsOf map) (coefficients W H cs) u v L k l ≡ patch W H (levels t) (coefficients W H cs) u v L k l
   by-tree =
-      let s = sound W H t cs acc in
+      let n = sides (sound W H t cs acc) in
       patch-cong W H (levelsOf map) (levels t) (coefficients W H cs) u v
-      (λ L a b. map-least W H t map L a b (good-side W (s .side-W) .1) (good-side H (s .side-H) .1) (given .2 .1))
+      (λ L a b. map-least W H t map L a b (n .1) (n .3) (given .2 .1))
 
   on-sheet : onSheet W H u v ≡ true
   on-sheet = and-intro (leb u (128 * W)) (leb v (128 * H)) (le-leb u (128 * W) (given .0))
@@ -101,9 +100,8 @@ module _ (W H : ℕ) (map : List ℕ) (cs : List ℤ) (u v : ℕ) (given : Reada
   pub point-ready : (0 < W) × (W ≤ 8) × (0 < H) × (H ≤ 8) × (u ≤ 128 * W) × (v ≤ 128 * H) × (length cs ≡ slots W H)
   point-ready =
       let s = sound W H t cs acc in
-      let w = good-side W (s .side-W) in
-      let h = good-side H (s .side-H) in
-      (w .0, w .1, h .0, h .1, given .0, given .1, s .size)
+      let n = sides s in
+      (n .0, n .1, n .2, n .3, given .0, given .1, s .size)
 
   -- each entry keeps its level's limit
   pub patch-bounded : (L m : ℕ) (p : List (List ℤ)) → L < 4 → limit L ≤ m → PatchAt W H map cs u v L p → Bounded m p

@@ -9,11 +9,11 @@ ghost use mathlib.Core.List.{List};
 ghost use Prim.Native.Nat.{ℕ, _*_, _≤_};
 ghost use Rattle.surface.specs.Table.{Acceptable, tableReading};
 ghost use Rattle.quadtree.specs.Paint.{levelMap};
+ghost use Rattle.point.specs.Painted.{Painted};
 
 // The numerator over D at (u, v).
 pub fn reading_at(cs: &[i64], map: &[u8; 1024], w: usize, h: usize, u: usize, v: usize) -> i64
-    requires { ⌜ (u ≤ 128 * w) × (v ≤ 128 * h)
-        × ((t : List ℕ) × (now map ≡ levelMap t) × Acceptable w h t (now cs)) ⌝ }
+    requires { ⌜ (u ≤ 128 * w) × (v ≤ 128 * h) × Painted w h (now map) (now cs) ⌝ }
     ensures { λ r. ⌜ ((t : List ℕ) → now (map .entry) ≡ levelMap t → Acceptable w h t (now (cs .entry))
         → r ≡ tableReading w h t (now (cs .entry)) u v) ⌝ }
 {

@@ -11,6 +11,7 @@ use lib.ListN.{set, replicate}
 use borrow.Author.Tests.{ltb-true, leb-true, lt-ltb, le-ltb, le-leb, lt-leb}
 use Rattle.finite.specs.Range.{tableFrom}
 use Rattle.finite.proofs.Table.{table-cong}
+use Rattle.finite.proofs.Tests.{same-test}
 use Rattle.surface.specs.Quadtree.{Quadtree, leaf, split, quadrant, levelAt}
 use Rattle.surface.proofs.TreeLevels.{levelAt-leaf}
 use Rattle.quadtree.specs.Paint.{inSpan, overlay, filled, painted}
@@ -90,11 +91,6 @@ no-span x q = go (decLt q x)
     go : Dec (q < x) → inSpan x 0 q ≡ false
     go (yes l) = before-span x 0 q l
     go (no l) = past-span x 0 q (omega arith)
-
-same-test : (s t : Bool) → (s ≡ true → t ≡ true) → (t ≡ true → s ≡ true) → s ≡ t
-same-test true t f g = sym (f refl)
-same-test false true f g = g refl
-same-test false false f g = refl
 
 -- one number more, seen from any other
 span-more : (x n p : ℕ) → (p ≡ x + n → ⊥) → inSpan x n p ≡ inSpan x (n + 1) p

@@ -3,8 +3,8 @@
 use mathlib.Core.Bool.{Bool, true, false, false≢true}
 use mathlib.Core.List.{List, [], _∷_}
 use mathlib.Core.Path.{_≡_, refl, sym, ap, _∙_}
-use Prim.Native.Nat.{ℕ, zero, suc, _+_, _^_, _≤_, _<_}
-use native.Mathlib.Nat.{add-zero, one-le-pow}
+use Prim.Native.Nat.{ℕ, zero, suc, _+_, _≤_, _<_}
+use native.Mathlib.Nat.{add-zero}
 use native.Mathlib.Numerals.{add-one}
 use native.Mathlib.Omega.{arith}
 use lib.Dec.{leb, eqb}
@@ -16,13 +16,6 @@ use Rattle.surface.specs.Quadtree.{parseNode, parse, wellFormed}
 use Rattle.surface.specs.Table.{treeOf, formed, regionsOf}
 use Rattle.surface.proofs.TreeBytes.{bytes-parse}
 use Rattle.quadtree.specs.Subtree.{Subtree, Readable}
-
--- A power of two says its exponent.
-pub pow-inj : (k j : ℕ) → 2 ^ k ≡ 2 ^ j → k ≡ j
-pow-inj zero zero e = refl
-pow-inj zero (suc j) e = omega (arith, one-le-pow j 2 (omega arith))
-pow-inj (suc k) zero e = omega (arith, one-le-pow k 2 (omega arith))
-pow-inj (suc k) (suc j) e = ap suc (pow-inj k j (omega arith))
 
 -- A tree has a byte for its root at least.
 pub bytes-some : (q : Quadtree) → 1 ≤ length (bytes q)

@@ -4,7 +4,7 @@ use mathlib.Core.Bool.{Bool, _&&_, cond}
 use mathlib.Core.List.{List}
 use Prim.Native.Nat.{ℕ, zero, suc, _+_, _^_, _≤_, _<_, min}
 use lib.Dec.{ltb}
-use lib.ListN.{length}
+use lib.ListN.{length, getD}
 use Rattle.surface.specs.Sheet.{Box, quarters}
 use Rattle.surface.specs.Quadtree.{Quadtree, leaf, split, bytes, meets, visits}
 use Rattle.surface.specs.Support.{leastWhere, inBox}
@@ -16,6 +16,10 @@ use Rattle.quadtree.specs.declared.visit.Walked.{Walked}
 -- the box that an area is
 abbrev pub boxOf : Area → Box
 boxOf a = record { u0 = a .u0; v0 = a .v0; u1 = a .u1; v1 = a .v1 }
+
+-- the box of the corners u0, v0, u1, v1
+abbrev pub boxAt : List ℕ → Box
+boxAt c = record { u0 = getD c 0 0; v0 = getD c 1 0; u1 = getD c 2 0; v1 = getD c 3 0 }
 
 -- a box with area that lies in the sheet
 abbrev pub InSheet : ℕ → ℕ → Box → Type 0

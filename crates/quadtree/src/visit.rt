@@ -4,7 +4,8 @@ ghost use Prim.Native.Nat.{_+_, _≤_, min};
 ghost use mathlib.Core.Bool.{true};
 ghost use Rattle.surface.specs.Table.{treeOf, formed};
 ghost use Rattle.quadtree.specs.Subtree.{Readable};
-ghost use Rattle.quadtree.specs.Visit.{boxOf, InSheet, overlap, sharesArea, NodeOf, WalkedOver, LeastUnder};
+ghost use Rattle.quadtree.specs.Visit.{boxOf, boxAt, InSheet, overlap, sharesArea, NodeOf, WalkedOver};
+ghost use Rattle.quadtree.specs.Visit.{LeastUnder};
 
 // A box in whole quarters, low corner first.
 pub struct Area {
@@ -15,14 +16,14 @@ pub struct Area {
 }
 
 // What a walk of a subtree found: the position after it, the least level of the leaves visited (3 if none was), and
-// how many nodes were visited.
+// how many nodes were visited. All are words: a byte is loaded back with its padding, which waits for its store.
 pub struct Walked {
     pub next: usize,
-    pub least: u8,
+    pub least: usize,
     pub visited: usize,
 }
 
-fn lesser(a: u8, b: u8) -> u8
+fn lesser(a: usize, b: usize) -> usize
     ensures { λ r. ⌜ r ≡ min a b ⌝ }
 {
     if a < b { a } else { b }
@@ -36,16 +37,16 @@ fn overlaps(lo: usize, hi: usize, x: usize, n: usize) -> bool
     x < hi && lo < x + n
 }
 
-// The square of this side at (x, y) shares area with the box.
-fn meets(x: usize, y: usize, side: usize, a: Area) -> bool
+// The square of this side at (x, y) shares area with the box of the corners u0, v0, u1, v1.
+fn meets(x: usize, y: usize, side: usize, corners: &[usize; 4]) -> bool
     requires { ⌜ (x + side ≤ 32) × (y + side ≤ 32) ⌝ }
-    ensures { λ r. ⌜ r ≡ sharesArea x y side (boxOf a) ⌝ }
+    ensures { λ r. ⌜ r ≡ sharesArea x y side (boxAt (now (corners .entry))) ⌝ }
 {
-    overlaps(a.u0, a.u1, x, side) && overlaps(a.v0, a.v1, y, side)
+    overlaps(corners[0], corners[2], x, side) && overlaps(corners[1], corners[3], y, side)
 }
 
 // What a node gives: these values if it is visited, and level 3 and no count if not.
-fn node(here: bool, next: usize, least: u8, visited: usize) -> Walked
+fn node(here: bool, next: usize, least: usize, visited: usize) -> Walked
     ensures { λ r. ⌜ NodeOf here next least visited r ⌝ }
 {
     if here {
@@ -64,21 +65,22 @@ fn node(here: bool, next: usize, least: u8, visited: usize) -> Walked
 }
 
 // Walks the tree that is written from `at` on, of the square of this side with low corner (x, y). The bytes have no
-// sizes, so subtrees away from the box are walked too, to find their ends, but not visited.
-fn walk(t: &[u8], at: usize, x: usize, y: usize, side: usize, a: Area) -> Walked
+// sizes, so subtrees away from the box are walked too, to find their ends, but not visited. The box's corners are
+// lent: a struct would be copied at each call.
+fn walk(t: &[u8], at: usize, x: usize, y: usize, side: usize, corners: &[usize; 4]) -> Walked
     requires { ⌜ (x + side ≤ 32) × (y + side ≤ 32) × Readable side (now t) at ⌝ }
-    ensures { λ r. ⌜ WalkedOver x y side (boxOf a) (now (t .entry)) at r ⌝ }
+    ensures { λ r. ⌜ WalkedOver x y side (boxAt (now (corners .entry))) (now (t .entry)) at r ⌝ }
 {
-    let here = meets(x, y, side, a);
+    let here = meets(x, y, side, corners);
     let b = t[at];
     if b <= 3 {
-        return node(here, at + 1, b, 1);
+        return node(here, at + 1, b as usize, 1);
     }
     let half = side / 2;
-    let sw = walk(t, at + 1, x, y, half, a);
-    let se = walk(t, sw.next, x + half, y, half, a);
-    let nw = walk(t, se.next, x, y + half, half, a);
-    let ne = walk(t, nw.next, x + half, y + half, half, a);
+    let sw = walk(t, at + 1, x, y, half, corners);
+    let se = walk(t, sw.next, x + half, y, half, corners);
+    let nw = walk(t, se.next, x, y + half, half, corners);
+    let ne = walk(t, nw.next, x + half, y + half, half, corners);
     let least = lesser(lesser(sw.least, se.least), lesser(nw.least, ne.least));
     node(
         here,
@@ -93,5 +95,11 @@ pub fn least_under(t: &[u8], w: usize, h: usize, a: Area) -> Walked
     requires { ⌜ (w ≤ 8) × (h ≤ 8) × (formed w h (treeOf (now t)) ≡ true) × InSheet w h (boxOf a) ⌝ }
     ensures { λ r. ⌜ LeastUnder w h (now (t .entry)) (boxOf a) (r .least) (r .visited) ⌝ }
 {
-    walk(t, 0, 0, 0, 32, a)
+    // A tree of one leaf, the common case, needs no walk: the box lies in the sheet, so the leaf is visited.
+    let b = t[0];
+    if b <= 3 {
+        return node(true, 1, b as usize, 1);
+    }
+    let corners = [a.u0, a.v0, a.u1, a.v1];
+    walk(t, 0, 0, 0, 32, &corners)
 }

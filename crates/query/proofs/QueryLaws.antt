@@ -7,16 +7,18 @@ use borrow.Author.Tests.{lt-ltb, le-ltb, eq-eqb, ne-eqb}
 use lib.Dec.{ltb, eqb}
 use lib.ListN.{length}
 use Rattle.finite.proofs.Table.{grid-cong}
-use Rattle.surface.specs.Sheet.{Box, functions}
+use Rattle.surface.specs.Sheet.{Box, quarters, functions}
 use Rattle.surface.specs.Quadtree.{visits}
 use Rattle.surface.specs.Support.{active, leastWhere, inBox}
 use Rattle.surface.specs.Table.{cause, _orElse_, treeOf, regionsOf, levels, places, regionCause}
 use Rattle.surface.specs.Calls.{refused, gives, answer, afterwards, boxCause, LeastLevel, leastOutcome}
 use Rattle.surface.specs.Calls.{activityBytes, activityCause, activityOutcome}
+use Rattle.surface.proofs.Least.{least-le-top}
 use Rattle.quadtree.specs.Paint.{levelMap}
 use Rattle.quadtree.specs.Visit.{LeastUnder}
 use Rattle.activity.specs.Mark.{levelMarks, activeMark}
-use Rattle.answers.proofs.AnswerLaws.{first, refusal, kept}
+use Rattle.surface.proofs.TableLaws.{orElse-first}
+use Rattle.answers.proofs.AnswerLaws.{refusal, kept}
 use Rattle.table.proofs.CauseLaws.{map-least}
 
 -- ---- the least level under a box
@@ -30,7 +32,7 @@ module _ (W H : ℕ) (t : List ℕ) (b : Box) where
   unfolding leastOutcome
   least-region n e h =
       refusal n found h
-      ∙ ap (λ m. answer m found) (first n (boxCause W H b) h ∙ ap (λ m. m orElse boxCause W H b) e)
+      ∙ ap (λ m. answer m found) (orElse-first n (boxCause W H b) h ∙ ap (λ m. m orElse boxCause W H b) e)
 
   pub least-box : (n : ℕ) → 0 ≡ regionCause W H t → n ≡ boxCause W H b → (n ≡ 0 → ⊥)
       → refused n ≡ leastOutcome W H t b
@@ -48,6 +50,10 @@ module _ (W H : ℕ) (t : List ℕ) (b : Box) where
       ∙ ap (λ m. answer m found) e
       ∙ ap (λ m. answer (m orElse boxCause W H b) found) r
 
+  -- the level found is at most 3, so that it is a byte
+  pub least-byte : (l v : ℕ) → LeastUnder W H t b l v → l ≤ 3
+  least-byte l v u = rw (u .lowest) (least-le-top 3 (quarters W) _)
+
 -- ---- the activity of a level
 
 -- the cause by that of the region, a level above 3, and an output of the exact length
@@ -59,7 +65,7 @@ module _ (W H : ℕ) (t : List ℕ) (L : ℕ) (out : List ℕ) where
   unfolding activityCause
   activity-region n e h =
       let rest = activity 0 (ltb 3 L) (eqb (length out) (places W H L)) in
-      first n rest h ∙ ap (λ m. m orElse rest) e
+      orElse-first n rest h ∙ ap (λ m. m orElse rest) e
 
   activity-by : (over exact : Bool) → 0 ≡ regionCause W H t → over ≡ ltb 3 L → exact ≡ eqb (length out) (places W H L)
       → activity 0 over exact ≡ activityCause W H t L out

@@ -27,7 +27,7 @@ pub fn least_level(
     }
     let found = quadtree::visit::least_under(tree, w, h, a);
     answers::Least::Level {
-        level: found.least,
+        level: found.least as u8,
         visited: found.visited,
     }
 }

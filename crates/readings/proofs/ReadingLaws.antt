@@ -1,20 +1,20 @@
 -- The outcome at each way out of the readings.
 use mathlib.Core.Path.{_≡_, refl, sym, ap, _∙_, subst}
-use mathlib.Core.Bool.{Bool, true, false, not, _&&_, and-false}
+use mathlib.Core.Bool.{Bool, true, false, not, and-false}
 use mathlib.Core.List.{List}
-use Prim.Native.Nat.{ℕ, zero, suc, _*_, _^_, _≤_, _<_}
+use Prim.Native.Nat.{ℕ, _*_, _^_, _≤_, _<_}
 use borrow.Author.Tests.{lt-ltb, le-ltb, le-leb, lt-leb}
-use lib.Dec.{leb, ltb}
+use lib.Dec.{ltb}
 use lib.IntN.{ℤ}
 use lib.Ieee.{Float}
 use Rattle.surface.specs.Sheet.{onSheet}
 use Rattle.surface.specs.Truncation.{D}
 use Rattle.surface.specs.Table.{cause, _orElse_, tableCause, tableReading}
-use Rattle.surface.specs.Calls.{Answer, refused, gives, answer, readingCause, exactOutcome, wholeWatts}
+use Rattle.surface.specs.Calls.{refused, gives, answer, readingCause, exactOutcome, wholeWatts}
 use Rattle.surface.specs.Calls.{displayOutcome, costOf, costOutcome}
 use Rattle.surface.specs.FloatReading.{Near, FloatMeets}
-use Rattle.surface.proofs.TableLaws.{good-side, sound}
-use Rattle.answers.proofs.AnswerLaws.{first, refusal, refused-by, gives-by, refused-before, gives-before}
+use Rattle.surface.proofs.TableLaws.{orElse-first}
+use Rattle.answers.proofs.AnswerLaws.{refusal, refused-by, gives-by, refused-before, gives-before}
 
 module _ (W H : ℕ) (t : List ℕ) (cs : List ℤ) (u v : ℕ) where
   -- ---- the cause
@@ -26,11 +26,7 @@ module _ (W H : ℕ) (t : List ℕ) (cs : List ℤ) (u v : ℕ) where
       ap (λ r. r orElse cause 6 (not on)) e ∙ ap (λ on. tableCause W H t cs orElse cause 6 (not on)) p
 
   table-refused : (r : ℕ) → r ≡ tableCause W H t cs → (r ≡ 0 → ⊥) → r ≡ readingCause W H t cs u v
-  table-refused r e h = first r (cause 6 (not (onSheet W H u v))) h ∙ reading-by r (onSheet W H u v) e refl
-
-  -- an acceptable table has sides of 8 or less
-  pub small-sides : 0 ≡ tableCause W H t cs → (W ≤ 8) × (H ≤ 8)
-  small-sides e = let s = sound W H t cs (sym e) in (good-side W (s .side-W) .1, good-side H (s .side-H) .1)
+  table-refused r e h = orElse-first r (cause 6 (not (onSheet W H u v))) h ∙ reading-by r (onSheet W H u v) e refl
 
   -- ---- the exact reading
 

@@ -3,7 +3,7 @@ use mathlib.Core.Path.{_≡_, _∙_}
 use mathlib.Core.List.{List}
 use Prim.Native.Nat.{ℕ, _+_, _^_, _≤_, _<_}
 use native.Mathlib.Omega.{arith}
-use lib.ListN.{length, take, getD}
+use lib.ListN.{length, take}
 use lib.Seq.{ext-getD, getD-take, length-take-le}
 use Rattle.surface.specs.Quadtree.{regionTree}
 use Rattle.surface.proofs.TreeLevels.{regionTree-ext}

@@ -1,1 +1,2 @@
+pub mod FloorLaws
 pub mod RoundingLaws

@@ -1,28 +1,47 @@
 // Whole watts and cost from the exact reading, by floor division.
 ghost use mathlib.Core.Path.{_≡_};
-ghost use Prim.Native.Nat.{_≤_, _<_, _+_, _/_, _^_};
-ghost use lib.IntN.{natAbs};
+ghost use Prim.Native.Nat.{_≤_, _<_};
+ghost use lib.IntN.{pos, natAbs, _+ℤ_, _*ℤ_};
+ghost use lib.Signed.{_≤ℤ_};
 ghost use Rattle.surface.specs.Truncation.{D};
-ghost use Rattle.surface.specs.Calls.{wholeWatts, costOf};
+ghost use Rattle.surface.specs.Calls.{floorDiv, wholeWatts, costOf};
 
-// a/D to the nearest whole number, halves upward. D is 36 × 2^42.
-fn rounded(a: usize) -> usize
-    requires { ⌜ a < 2 ^ 63 ⌝ }
-    ensures { λ r. ⌜ r ≡ (a + D / 2) / D ⌝ }
+// D, the denominator of the exact readings: 36 × 2^42.
+const DENOMINATOR: i64 = 158329674399744;
+
+const HALF: i64 = DENOMINATOR / 2;
+
+// The floor of n/D, exact at every i64: the quotient toward zero, less 1 where its remainder is below zero.
+fn floor_over_d(n: i64) -> i64
+    ensures { λ r. ⌜ r ≡ floorDiv n D ⌝ }
 {
-    (a + 79164837199872) / 158329674399744
+    let quotient = n / DENOMINATOR;
+    if n % DENOMINATOR < 0 {
+        quotient - 1
+    } else {
+        quotient
+    }
+}
+
+// What the floor of n/D leaves over of n, from 0 to D − 1.
+fn left_over(n: i64) -> i64
+    ensures { λ r. ⌜ (n ≡ pos D *ℤ floorDiv n D +ℤ r) × (pos 0 ≤ℤ r) × (natAbs r < D) ⌝ }
+{
+    let remainder = n % DENOMINATOR;
+    if remainder < 0 {
+        remainder + DENOMINATOR
+    } else {
+        remainder
+    }
 }
 
 // The exact watts n/D to the nearest whole number, halves upward, also below zero.
 pub fn whole_watts(n: i64) -> i64
     ensures { λ r. ⌜ (r ≡ wholeWatts n) × (natAbs r ≤ 60000) ⌝ }
 {
-    if n < 0 {
-        // -1 - n fits at every i64, and n rounds to minus what that rounds to.
-        0 - rounded((-1 - n) as usize) as i64
-    } else {
-        rounded(n as usize) as i64
-    }
+    let floor = floor_over_d(n);
+    let left = left_over(n);
+    if left < HALF { floor } else { floor + 1 }
 }
 
 // Cost per hour in hundredths of a cent; watts of 0 come to 0 by the formula.

@@ -17,13 +17,11 @@ use Rattle.finite.proofs.Extremum.{Lowest, Highest, Nowhere, least3, greatest3}
 use Rattle.surface.specs.Sheet.{functions, onSheet}
 use Rattle.surface.specs.Support.{leastUnder, active, holdsAlong, holds}
 use Rattle.surface.specs.Truncation.{D, reading}
-use Rattle.surface.specs.Table.{levels, coefficients, limit}
-use Rattle.surface.specs.Table.{Acceptable}
+use Rattle.surface.specs.Table.{levels, coefficients, limit, Acceptable}
 use Rattle.surface.specs.Demands.{Bracketed}
 use Rattle.surface.proofs.SplineTwoScale.{spline-holds}
 use Rattle.surface.proofs.Least.{both, and-intro, holds-parent}
-use Rattle.surface.proofs.TableLaws.{good-side}
-use Rattle.surface.proofs.TableLaws.{sound}
+use Rattle.surface.proofs.TableLaws.{sides, sound}
 use Rattle.surface.proofs.Bounds.{Between, reading-between}
 use Rattle.surface.proofs.Insertion.{scaled-between}
 
@@ -51,8 +49,8 @@ module _ (W H : ℕ) (t : List ℕ) (cs : List ℤ) (acc : Acceptable W H t cs) 
       → Between (pos 603979776 *ℤ lo) (reading W H (levels t) coef u v) (pos 603979776 *ℤ hi)
   around-bounds lo hi h =
       let s = sound W H t cs acc in
-      let pW = good-side W (s .side-W) .0 in
-      let pH = good-side H (s .side-H) .0 in
+      let pW = sides s .0 in
+      let pH = sides s .2 in
       let p = on-sheet W H u v on in
       reading-between W H (levels t) coef lo hi (λ L a b. holds L a b u v ≡ true)
       (λ L a b c d l wa wb e.

@@ -1,34 +1,37 @@
 -- The bench sheet's starred cases: by computation and, where a case speaks of a reading, of every point or of
--- thousands of functions, by the laws first.
+-- thousands of functions, by the laws first. With them the further case that reads, WholeWattsPriced.
 use mathlib.Core.Path.{_≡_, refl, sym, ap, _∙_, subst}
-use mathlib.Core.Bool.{Bool, true, false, not, _&&_, _||_, cond}
-use mathlib.Core.List.{List, [], _∷_, _++_}
-use Prim.Native.Nat.{ℕ, _+_, _*_, _^_, _≤_, _<_}
+use mathlib.Core.Bool.{Bool, true, not, _&&_, _||_, cond}
+use mathlib.Core.List.{List, [], _∷_}
+use Prim.Native.Nat.{ℕ, _*_, _^_, _≤_}
 use native.Mathlib.Nat.{le-refl, le-antisymm, one-le-pow, mul-comm, mul-left-comm}
 use lib.IntN.{ℤ, pos, _*ℤ_}
-use lib.ListN.{length, replicate}
-use lib.Dec.{T, lit<, lit≤}
+use lib.ListN.{replicate}
+use lib.Dec.{T, ltb, lit<, lit≤}
 use lib.Signed.{_≤ℤ_, leZ, leZ-yes}
 use borrow.Author.Tests.{eq-eqb}
-use Rattle.finite.specs.Range.{sum, every, least, tableFrom, rowsFrom, grid}
+use Rattle.finite.specs.Range.{sum, every, least, grid}
 use Rattle.finite.proofs.Order.{scale-reflects, ≤ℤ-antisym}
 use Rattle.finite.proofs.Table.{grid-cong, grid-const}
-use Rattle.surface.specs.Sheet.{eighths, functions, onSheet}
+use Rattle.surface.specs.Sheet.{eighths, onSheet}
 use Rattle.surface.specs.Quadtree.{parse, wellFormed, levelAt}
 use Rattle.surface.specs.Support.{shares, leastUnder, active}
 use Rattle.surface.specs.Spline.{cellOf, piece}
 use Rattle.surface.specs.Truncation.{D}
 use Rattle.surface.specs.Patch.{patch, patchReading}
-use Rattle.surface.specs.Table.{levels, start, coefficients, sliceFrom, withinLimits, passiveZero, regionCause}
-use Rattle.surface.specs.Table.{tableCause, everywhere, Acceptable, tableReading}
+use Rattle.surface.specs.Table.{levels, start, coefficients, withinLimits, passiveZero, regionCause}
+use Rattle.surface.specs.Table.{cause, tableCause, everywhere, Acceptable, tableReading}
 use Rattle.surface.specs.Calls.{gives, activityBytes, activityCause, activityOutcome, readingCause, exactOutcome}
-use Rattle.surface.specs.Demands.{Around, Bracketed}
+use Rattle.surface.specs.Calls.{answer, displayOutcome, costOutcome, wholeWatts, costOf}
+use Rattle.surface.specs.Demands.{Around}
 use Rattle.surface.specs.Bench.{refined, S, flat, first, second, level700, Equal, Finest, BenchSheet}
+use Rattle.surface.specs.Cases.{halfWatt, WholeWattsPriced}
 use Rattle.surface.specs.Computed.{inserted, visited, two-by-one, trees, past}
 use Rattle.surface.proofs.Least.{both, leastUnder-le-3, le-leastWhere}
 use Rattle.surface.proofs.TableLaws.{everywhere-true, when-active}
 use Rattle.surface.proofs.PatchReading.{patch-reading}
 use Rattle.surface.proofs.Around.{bracketed}
+use Rattle.surface.proofs.Demands.{reading-given}
 
 -- a reading on the unrefined 1 by 1 sheet, by its patch
 read : (cs : List ℤ) (u v : ℕ) (n : ℤ) → readingCause 1 1 flat cs u v ≡ 0 → u ≤ 128 → v ≤ 128
@@ -137,3 +140,22 @@ bench-sheet =
       lastPoint = read S 128 5 (pos (1000 * D)) refl (lit≤ tt) (lit≤ tt) refl;
       past = past;
     }
+
+-- ---- whole watts and their cost
+
+-- where the exact reading is n, display and cost are of n's whole watts
+priced : (W H : ℕ) (t : List ℕ) (cs : List ℤ) (u v tariff : ℕ) (n : ℤ) → exactOutcome W H t cs u v ≡ gives n
+    → (displayOutcome W H t cs u v ≡ gives (wholeWatts n))
+    × (costOutcome W H t cs u v tariff ≡ answer (cause 11 (ltb 99999 tariff)) (costOf (wholeWatts n) tariff))
+unfolding displayOutcome costOutcome readingCause
+priced W H t cs u v tariff n e =
+    let g = reading-given W H t cs u v n .0 e in
+    (rw (g .0, g .1, g .2), rw (g .0, g .1, g .2))
+
+pub whole-watts-priced : WholeWattsPriced
+unfolding readingCause tableCause regionCause withinLimits passiveZero every leastUnder least eighths levels levelAt
+    parse wellFormed start coefficients patchReading patch sum cellOf piece wholeWatts
+whole-watts-priced =
+    let half = read halfWatt 64 5 (pos (18 * 2 ^ 42)) refl (lit≤ tt) (lit≤ tt) refl in
+    let p = priced 1 1 flat halfWatt 64 5 99999 (pos (18 * 2 ^ 42)) half in
+    (half, p .0, p .1)

@@ -1,25 +1,24 @@
 -- Demand 3, the bounds: carried values and readings lie between bounds of the active coefficients.
 use mathlib.Core.Path.{_≡_, refl, sym, ap, _∙_, subst}
-use mathlib.Core.Bool.{Bool, true, false, cond}
-use Prim.Native.Nat.{ℕ, zero, suc, _+_, _-_, _*_, _^_, _≤_, _<_}
-use native.Mathlib.Nat.{le-trans, pow-succ', add-suc, zero-add, suc-add, mul-comm}
+use Prim.Native.Nat.{ℕ, zero, suc, _+_, _*_, _^_, _≤_, _<_}
+use native.Mathlib.Nat.{le-trans, pow-succ'}
 use native.Mathlib.Decide.{decLe}
 use native.Mathlib.Omega.{arith}
-use lib.Dec.{leb, lit<, lit≤}
-use lib.IntN.{ℤ, pos, _+ℤ_, _*ℤ_, *ℤ-comm, +ℤ-idl}
+use lib.Dec.{lit<, lit≤}
+use lib.IntN.{ℤ, pos, _*ℤ_}
 use lib.Signed.{_≤ℤ_}
 use Rattle.finite.specs.Range.{sum, sum2}
 use Rattle.finite.proofs.Int.{*ℤ-assoc, *ℤ-left-comm, one-*ℤ}
 use Rattle.finite.proofs.Order.{scale-reflects}
-use Rattle.finite.proofs.Sum.{sum-window, sum-cong, sum2-cong, sum2-scale, sum2-product}
+use Rattle.finite.proofs.Sum.{sum-window, sum2-cong, sum2-scale, sum2-product}
 use Rattle.finite.proofs.Weighted.{weighted-low, weighted-high}
-use Rattle.surface.specs.Sheet.{functions, eighths, steps}
-use Rattle.surface.specs.Support.{leastUnder, holds, holdsAlong}
+use Rattle.surface.specs.Sheet.{functions, eighths}
+use Rattle.surface.specs.Support.{leastUnder}
 use Rattle.surface.specs.Spline.{cellOf, piece, splineAt}
 use Rattle.surface.specs.Truncation.{weight, weight2, reading}
 use Rattle.surface.specs.Carry.{carried}
 use Rattle.surface.proofs.SplinePiece.{piece-sum}
-use Rattle.surface.proofs.SplineCell.{CellPoint, cell-point, cell-inside, spline-low, spline-far}
+use Rattle.surface.proofs.SplineCell.{cell-point, cell-inside, spline-low, spline-far}
 use Rattle.surface.proofs.Least.{leastUnder-parent, leastUnder-le-3}
 use Rattle.surface.proofs.Parents.{weights2-sum}
 use Rattle.surface.proofs.Carried.{factors, carried-own, carried-sum, carried-reading}

@@ -1,22 +1,22 @@
 -- The exact reading by truncated functions is the level 3 spline with the carried values for coefficients.
-use mathlib.Core.Path.{_≡_, refl, sym, ap, ap₂, _∙_, subst}
+use mathlib.Core.Path.{_≡_, refl, sym, ap, ap₂, _∙_}
 use mathlib.Core.Logic.{_⊎_, inl, inr}
 use mathlib.Core.Bool.{Bool, true, false, cond}
-use Prim.Native.Nat.{ℕ, zero, suc, _+_, _-_, _*_, _≤_, _<_}
+use Prim.Native.Nat.{ℕ, zero, suc, _*_, _≤_, _<_}
 use native.Mathlib.Nat.{le-trans, eq-zero-or-pos, zero-mul, mul-zero, pos-of-ne-zero}
 use native.Mathlib.Decide.{decLe, ℕ-discrete}
 use native.Mathlib.Omega.{arith}
-use lib.Dec.{leb, ltb, eqb, lit<}
-use borrow.Author.Tests.{leb-true, leb-false, le-leb, lt-leb, eqb-true, eqb-false, eq-eqb, ne-eqb}
+use lib.Dec.{leb, eqb, lit<}
+use borrow.Author.Tests.{leb-false, le-leb, lt-leb, eqb-true, eqb-false, eq-eqb, ne-eqb}
 use lib.IntN.{ℤ, pos, _+ℤ_, _*ℤ_, zero-*ℤ, *ℤ-zero, +ℤ-idr, +ℤ-idl, *ℤ-comm}
 use Rattle.finite.specs.Range.{sum, sum2}
 use Rattle.finite.proofs.Int.{*ℤ-assoc, *ℤ-left-comm}
 use Rattle.finite.proofs.Sum.{sum2-cong, sum2-zero, sum2-add, sum2-scale, sum2-swap}
-use Rattle.finite.proofs.Weighted.{weighted-cong, term-cong}
+use Rattle.finite.proofs.Weighted.{weighted-cong}
 use Rattle.surface.specs.Sheet.{functions, quarters}
 use Rattle.surface.specs.Support.{leastUnder, active, inRegion}
 use Rattle.surface.specs.Spline.{splineAt}
-use Rattle.surface.specs.Truncation.{weight, weight2, truncated, levelReading, reading}
+use Rattle.surface.specs.Truncation.{weight, weight2, truncated, reading}
 use Rattle.surface.specs.Carry.{carried}
 use Rattle.surface.proofs.Least.{pick, leastUnder-parent, leastUnder-le-3, leastUnder-cong}
 

@@ -8,17 +8,15 @@ use lib.IntN.{ℤ, natAbs, _+ℤ_, _*ℤ_}
 use lib.Dec.{ltb}
 use lib.ListN.{length, getD}
 use Rattle.surface.specs.Sheet.{goodSide, functions, onSheet}
-use Rattle.surface.specs.Support.{active, holds, inBox}
+use Rattle.surface.specs.Support.{active, inBox}
 use Rattle.surface.specs.Spline.{cellOf}
-use Rattle.surface.specs.Truncation.{D, reading}
+use Rattle.surface.specs.Truncation.{D}
 use Rattle.surface.specs.Table.{cause, _orElse_, levels, place, coefficients, limit, tableCause}
 use Rattle.surface.specs.Table.{Acceptable, tableReading}
-use Rattle.surface.specs.Calls.{afterwards}
-use Rattle.surface.specs.Calls.{lengthCause}
-use Rattle.surface.specs.Demands.{SelectionRule, InsertionRaises}
-use Rattle.surface.specs.Demands.{OneTree, LinearReadings, Bracketed, BracketedReadings}
-use Rattle.surface.specs.Demands.{afterAll}
-use Rattle.surface.specs.Demands.{RefinementMovesNoReading, ReadingFits, PatchEvaluates, TwoScale}
+use Rattle.surface.specs.Calls.{afterwards, lengthCause}
+use Rattle.surface.specs.Demands.{SelectionRule, InsertionRaises, OneTree, LinearReadings, Bracketed}
+use Rattle.surface.specs.Demands.{BracketedReadings, afterAll, RefinementMovesNoReading, ReadingFits}
+use Rattle.surface.specs.Demands.{PatchEvaluates, TwoScale}
 use Rattle.surface.proofs.TreeBytes.{tree-length}
 use Rattle.surface.proofs.TreeLevels.{levelAt-le}
 use Rattle.surface.proofs.SplineCell.{cell-inside}
@@ -28,8 +26,7 @@ use Rattle.surface.proofs.Selection.{selection}
 use Rattle.surface.proofs.SupportLaws.{holds-positive, cell-positive, untruncated}
 use Rattle.surface.specs.Demands.{SupportIsWhereNotZero, Untruncated}
 use Rattle.surface.proofs.TableLaws.{orElse-none, cause-none, good-side, formed-tree, levels-of}
-use Rattle.surface.proofs.TableLaws.{sound, acceptable}
-use Rattle.surface.proofs.TableLaws.{place-in-slice}
+use Rattle.surface.proofs.TableLaws.{sound, sides, place-in-slice}
 use Rattle.surface.proofs.Linear.{linear}
 use Rattle.surface.proofs.PatchReading.{patch-carried, patch-reading}
 use Rattle.surface.proofs.Insertion.{carried-fits, new-levels}
@@ -39,9 +36,8 @@ use Rattle.surface.specs.Table.{treeOf, formed, places, regionCause}
 use Rattle.surface.specs.Demands.{ReadingGiven}
 use Rattle.finite.specs.Range.{grid}
 use Rattle.finite.proofs.Table.{getD-grid}
-use Rattle.surface.proofs.Least.{pick}
 use borrow.Author.Tests.{ltb-false}
-use Rattle.surface.proofs.Refusals.{answer-gives}
+use Rattle.surface.proofs.Refusals.{answer-gives, cause-off}
 use Rattle.surface.proofs.Around.{on-sheet, bracketed, fits}
 use Rattle.surface.proofs.OneTree.{same-tree, slice-bytes}
 use Rattle.surface.proofs.InsertionList.{accepted, step-cases, all-keep}
@@ -69,10 +65,10 @@ selection-rule W H t L out e a b ha hb =
     let z = answer-gives (regionCause W H t orElse c8 orElse c16) tt tt e .0 in
     let e1 = orElse-none (c1 orElse c2) (c8 orElse c16) z in
     let e2 = orElse-none c1 c2 (e1 .0) in
-    let sides = both (goodSide W) (goodSide H) (cause-none 0 (goodSide W && goodSide H) (e2 .0)) in
+    let good = both (goodSide W) (goodSide H) (cause-none 0 (goodSide W && goodSide H) (e2 .0)) in
     let f = formed-tree W H t (cause-none 1 (formed W H (treeOf t)) (e2 .1)) in
-    let h3 : L ≤ 3 = level-ok L (orElse-none c8 c16 (e1 .1) .0) in
-    let s = selection W H (levels t) L a b (good-side W (sides .0) .0) (good-side H (sides .1) .0)
+    let h3 : L ≤ 3 = ltb-false 3 L (cause-off 7 (ltb 3 L) (orElse-none c8 c16 (e1 .1) .0)) in
+    let s = selection W H (levels t) L a b (good-side W (good .0) .0) (good-side H (good .1) .0)
     (λ q r hq hr. rw (levels-of W H t f q r) (levelAt-le W H 5 0 0 (f .tree) q r (f .shape))) h3 ha hb in
     let at : getD (afterwards (regionCause W H t orElse c8 orElse c16) out (grid (functions W L) (functions H L) bits))
     (b * functions W L + a) 0 ≡ bits a b =
@@ -81,10 +77,6 @@ selection-rule W H t L out e a b ha hb =
       λ sel. at ∙ rw (s .1 sel),
     )
   where
-    level-ok : (L : ℕ) → cause 8 (ltb 3 L) ≡ 0 → L ≤ 3
-    level-ok L c = ltb-false 3 L (pick (ltb 3 L) (λ t. cause 8 t ≡ 0 → t ≡ false) (λ _ h. absurd (omega arith))
-        (λ _ _. refl) c)
-
     bit-true : (t : Bool) → _≡_ {A = ℕ} (cond t 1 0) 1 → t ≡ true
     bit-true true h = refl
     bit-true false h = absurd (omega arith)
@@ -106,8 +98,8 @@ reading-fits W H t cs u v n e =
 pub patch-evaluates : PatchEvaluates
 patch-evaluates W H t cs acc u v on =
     let s = sound W H t cs acc in
-    let pW = good-side W (s .side-W) .0 in
-    let pH = good-side H (s .side-H) .0 in
+    let pW = sides s .0 in
+    let pH = sides s .2 in
     let p = on-sheet W H u v on in (
       patch-reading W H (levels t) (coefficients W H cs) u v pW pH (p .0) (p .1),
       λ L k l hL hk hl.
@@ -122,10 +114,9 @@ patch-evaluates W H t cs acc u v on =
 pub support-is-where-not-zero : SupportIsWhereNotZero
 support-is-where-not-zero n L a p l = (λ x h. cell-positive n L a x p l h, λ u h. holds-positive n L a u p l h)
 
--- "A level L function (i, j) is the product of two uniform cubic B-splines."
+-- A function that loses no term at a point is there "the product of two uniform cubic B-splines".
 pub not-truncated : Untruncated
-not-truncated W H lev u v pW pH hu hv n L a b e h =
-    untruncated W H lev u v pW pH hu hv n L a b e (λ M c d l m _ _ _. h M c d l m)
+not-truncated = untruncated
 
 -- The two-scale relation of the splines.
 pub two-scale : TwoScale
@@ -148,8 +139,8 @@ pub linear-readings : LinearReadings
 unfolding coefficients
 linear-readings W H t₁ t₂ t₃ c₁ c₂ c₃ a b acc₁ acc₂ acc₃ same₂ same₃ e u v n₁ n₂ n₃ r₁ r₂ r₃ =
     let s₁ = sound W H t₁ c₁ acc₁ in
-    let hW = good-side W (s₁ .side-W) .1 in
-    let hH = good-side H (s₁ .side-H) .1 in
+    let hW = sides s₁ .1 in
+    let hH = sides s₁ .3 in
     let e₂ = same-tree W H hW hH t₁ t₂ (s₁ .tree) (sound W H t₂ c₂ acc₂ .tree) same₂ in
     let e₃ = same-tree W H hW hH t₁ t₃ (s₁ .tree) (sound W H t₃ c₃ acc₃ .tree) same₃ in
     sym (reading-given W H t₁ c₁ u v n₁ .0 r₁ .2)
@@ -187,5 +178,5 @@ insertion-raises W H c i n e q r hq hr =
     (λ m f. absurd (let z : _≡_ {A = ℕ} 0 1 = cc in omega arith))
     (λ k. let a = accepted W H (c .tree) (c .numbers) (i .box) (i .level) (i .treeOut) (i .numbersOut) k in
     let s = sound W H (c .tree) (c .numbers) (a .0) in
-    new-levels W H (c .tree) (s .tree) (good-side W (s .side-W) .1) (good-side H (s .side-H) .1) (i .box) (i .level)
+    new-levels W H (c .tree) (s .tree) (sides s .1) (sides s .3) (i .box) (i .level)
     (a .3) (a .1) (a .2) q r hq hr)

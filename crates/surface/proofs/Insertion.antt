@@ -1,26 +1,26 @@
 -- An accepted insertion: the new tree has the raised levels, the table stays acceptable, and no reading moves.
 use mathlib.Core.Path.{_≡_, refl, sym, ap, _∙_, subst}
 use mathlib.Core.Logic.{_⊎_, inl, inr}
-use mathlib.Core.Bool.{Bool, true, false, not, _&&_, cond}
-use mathlib.Core.List.{List, [], _∷_, _++_, append-nil}
+use mathlib.Core.Bool.{true, _&&_, cond}
+use mathlib.Core.List.{List, [], append-nil}
 use Prim.Native.Nat.{ℕ, zero, suc, _+_, _-_, _*_, _^_, _≤_, _<_, max}
 use native.Mathlib.Nat.{zero-add, mul-left-comm, one-le-pow, le-trans, le-of-eq}
 use native.Mathlib.Decide.{decLe}
 use native.Mathlib.Omega.{arith}
 use lib.IntN.{ℤ, pos, negℤ, natAbs, _*ℤ_}
 use lib.Dec.{leb, ltb, eqb, lit<, lit≤}
-use borrow.Author.Tests.{ltb-true, ltb-false, lt-ltb, leb-true, eqb-true, eq-eqb, ne-eqb}
-use Rattle.surface.specs.Sheet.{Box, goodSide, functions, quarters}
-use Rattle.surface.specs.Quadtree.{Quadtree, found, bytes, parse, wellFormed, levelAt, regionTree}
-use Rattle.surface.specs.Support.{leastUnder, active, inBox}
-use Rattle.surface.specs.Carry.{raised, carried, carriedOver}
-use Rattle.surface.specs.Table.{levels, slots, coefficients, sliceOf, limit, Acceptable, tableReading}
-use Rattle.surface.specs.Calls.{newLevels, newTree, newCoefficients, boxCause}
+use borrow.Author.Tests.{ltb-true, eqb-true, eq-eqb, ne-eqb}
+use Rattle.surface.specs.Sheet.{Box, functions, quarters}
+use Rattle.surface.specs.Quadtree.{Quadtree, found, bytes, parse, wellFormed, regionTree}
+use Rattle.surface.specs.Support.{leastUnder, inBox}
+use Rattle.surface.specs.Carry.{carried, carriedOver}
+use Rattle.surface.specs.Table.{levels, coefficients, limit, tableReading}
+use Rattle.surface.specs.Calls.{newLevels, newTree, newCoefficients}
 use Rattle.surface.proofs.TreeBytes.{parse-bytes}
 use Rattle.surface.proofs.TreeLevels.{levelAt-regionTree, regionTree-ext, regionTree-wellFormed, levelAt-le}
 use Rattle.surface.proofs.TreeLevels.{levelAt-beyond}
 use Rattle.surface.proofs.Least.{both, pick, lts-true, lts-intro, leastUnder-cong, leastUnder-raise}
-use Rattle.surface.proofs.TableLaws.{Formed, good-side, levels-of, Sound, slice-length, slice-coefficient}
+use Rattle.surface.proofs.TableLaws.{Formed, levels-of, Sound, sides, slice-length, slice-coefficient}
 use Rattle.surface.proofs.Carried.{carried-own}
 use Rattle.surface.proofs.Linear.{reading-cong}
 use Rattle.surface.proofs.Refine.{carriedOver-active, refine-reading}
@@ -173,10 +173,10 @@ module _ (W H : ℕ) (t : List ℕ) (cs : List ℤ) (s : Sound W H t cs) (box : 
   new = levels (newTree t box n)
 
   formed′ : Formed W H (newTree t box n)
-  formed′ = new-formed W H t (s .tree) (good-side W (s .side-W) .1) (good-side H (s .side-H) .1) box n hn hu hv
+  formed′ = new-formed W H t (s .tree) (sides s .1) (sides s .3) box n hn hu hv
 
   levels′ : (q r : ℕ) → q < quarters W → r < quarters H → new q r ≡ newLevels t box n q r
-  levels′ = new-levels W H t (s .tree) (good-side W (s .side-W) .1) (good-side H (s .side-H) .1) box n hn hu hv
+  levels′ = new-levels W H t (s .tree) (sides s .1) (sides s .3) box n hn hu hv
 
   rise : (q r : ℕ) → q < quarters W → r < quarters H → levels t q r ≤ new q r
   rise q r hq hr =

@@ -9,18 +9,13 @@ use lib.ListN.{length, drop}
 use lib.Seq.{take-append-seam}
 use borrow.Author.Tests.{leb-true}
 use Rattle.surface.specs.Sheet.{Box, quarters}
-use Rattle.surface.specs.Table.{cause, _orElse_, slots, tableCause}
-use Rattle.surface.specs.Table.{Acceptable, tableReading}
-use Rattle.surface.specs.Calls.{refused, answer, afterwards, put, insertCause}
-use Rattle.surface.specs.Calls.{insertOutcome}
-use Rattle.surface.specs.Calls.{boxCause, lengthCause, treeOutCause, newTree, newCoefficients}
-use Rattle.surface.specs.Demands.{Insertion, Contents, left, outcomeOf, step}
-use Rattle.surface.specs.Demands.{afterAll}
+use Rattle.surface.specs.Table.{cause, _orElse_, slots, tableCause, Acceptable, tableReading}
+use Rattle.surface.specs.Calls.{refused, answer, afterwards, put, insertCause, insertOutcome, boxCause}
+use Rattle.surface.specs.Calls.{lengthCause, treeOutCause, newTree, newCoefficients}
+use Rattle.surface.specs.Demands.{Insertion, Contents, left, outcomeOf, step, afterAll}
 use Rattle.surface.proofs.Least.{both}
-use Rattle.surface.proofs.TableLaws.{orElse-none, cause-none}
-use Rattle.surface.proofs.TableLaws.{sound, acceptable}
-use Rattle.surface.proofs.Insertion.{insertion-sound}
-use Rattle.surface.proofs.Insertion.{insertion-reading}
+use Rattle.surface.proofs.TableLaws.{orElse-none, cause-none, sound, acceptable}
+use Rattle.surface.proofs.Insertion.{insertion-sound, insertion-reading}
 
 -- what the causes of an insertion exclude
 pub accepted : (W H : ℕ) (t : List ℕ) (cs : List ℤ) (box : Box) (n : ℕ) (treeOut : List ℕ) (numbersOut : List ℤ)

@@ -3,15 +3,14 @@ use mathlib.Core.Path.{_≡_, refl, sym, ap, _∙_, subst}
 use mathlib.Core.Bool.{Bool, true, false, _&&_, cond}
 use Prim.Native.Nat.{ℕ, zero, suc, _+_, _-_, _*_, _≤_, _<_, min}
 use native.Mathlib.Nat.{le-refl, le-trans, min-le-left, min-le-right, le-min, le-of-eq, le-antisymm, lt-suc-self}
-use native.Mathlib.Nat.{le-step, mul-le-mul-right}
-use native.Mathlib.Nat.{mul-assoc, mul-comm, add-mul}
+use native.Mathlib.Nat.{le-step, mul-le-mul-right, mul-assoc, mul-comm, add-mul}
 use native.Mathlib.Decide.{decLt}
 use native.Mathlib.Omega.{arith}
-use lib.Dec.{ltb, leb}
-use borrow.Author.Tests.{ltb-true, ltb-false, lt-ltb, leb-true, leb-false, le-leb, lt-leb}
+use lib.Dec.{ltb}
+use borrow.Author.Tests.{ltb-true, lt-ltb}
 use Rattle.finite.specs.Range.{least}
 use Rattle.surface.specs.Sheet.{eighths, steps, quarters}
-use Rattle.surface.specs.Support.{lowEnd, highEnd, shares, holdsAlong, holds, leastWhere, leastUnder}
+use Rattle.surface.specs.Support.{lowEnd, highEnd, shares, holdsAlong, leastWhere, leastUnder}
 use Rattle.surface.specs.Truncation.{weight}
 use Rattle.surface.proofs.SplineWeight.{weight-parent, eighths-step}
 

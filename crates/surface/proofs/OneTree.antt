@@ -7,11 +7,9 @@ use native.Mathlib.Decide.{decLt}
 use native.Mathlib.Omega.{arith}
 use Rattle.surface.specs.Sheet.{quarters}
 use Rattle.surface.specs.Quadtree.{bytes, levelAt}
-use Rattle.surface.specs.Table.{levels}
 use Rattle.surface.specs.Demands.{SameRegions}
 use Rattle.surface.proofs.TreeBytes.{bytes-parse}
 use Rattle.surface.proofs.TreeLevels.{levelAt-beyond, one-tree}
-use Rattle.surface.proofs.Least.{both}
 use Rattle.surface.proofs.TableLaws.{Formed, levels-of}
 
 -- a slice of the form is its tree's bytes

@@ -1,15 +1,14 @@
 -- The two-scale sum over a function's parents: three terms in each direction, with weights that add up to 8.
-use mathlib.Core.Path.{_≡_, refl, sym, ap, _∙_, subst}
+use mathlib.Core.Path.{_≡_, refl, sym, ap, _∙_}
 use mathlib.Core.Logic.{_⊎_, inl, inr}
-use mathlib.Core.Bool.{Bool, true, false, cond}
-use Prim.Native.Nat.{ℕ, zero, suc, _+_, _-_, _*_, _/_, _%_, _^_, _≤_, _<_}
-use native.Mathlib.Nat.{add-zero, mul-comm, mul-assoc, pow-succ', mul-left-comm}
+use Prim.Native.Nat.{ℕ, zero, suc, _+_, _*_, _/_, _%_, _^_, _<_}
+use native.Mathlib.Nat.{add-zero, pow-succ', mul-left-comm}
 use native.Mathlib.Omega.{arith}
-use lib.IntN.{ℤ, pos, _+ℤ_, _*ℤ_, zero-*ℤ, +ℤ-idr, +ℤ-idl, +ℤ-assoc}
+use lib.IntN.{ℤ, pos, _*ℤ_, zero-*ℤ, +ℤ-idr}
 use Rattle.finite.specs.Range.{sum, sum2}
 use Rattle.finite.proofs.Sum.{sum-window, sum-cong, sum2-product}
 use Rattle.finite.proofs.Weighted.{both-directions}
-use Rattle.surface.specs.Sheet.{cells, functions}
+use Rattle.surface.specs.Sheet.{functions}
 use Rattle.surface.specs.Truncation.{weight, weight2}
 use Rattle.surface.specs.Patch.{stencil}
 use Rattle.surface.proofs.SplineWeight.{weight-even-0, weight-even-1, weight-even-low, weight-even-high}

@@ -1,18 +1,17 @@
 -- The four by four patch subdivided from level to level gives the exact reading (EVAL_THB of source document 003).
-use mathlib.Core.Path.{_≡_, refl, sym, ap, _∙_, subst}
-use mathlib.Core.Logic.{_⊎_, inl, inr}
-use mathlib.Core.Bool.{Bool, true, false, cond}
+use mathlib.Core.Path.{_≡_, refl, sym, ap, _∙_}
+use mathlib.Core.Bool.{cond}
 use Prim.Native.Nat.{ℕ, zero, suc, _+_, _-_, _*_, _/_, _%_, _≤_, _<_}
 use native.Mathlib.Nat.{add-assoc}
 use native.Mathlib.Decide.{ℕ-discrete}
 use native.Mathlib.Omega.{arith}
-use lib.Dec.{leb, eqb, lit<, lit≤}
+use lib.Dec.{lit≤}
 use lib.IntN.{ℤ, pos, _*ℤ_, zero-*ℤ}
 use Rattle.finite.specs.Range.{sum, sum2}
 use Rattle.finite.proofs.Sum.{sum-window, sum-cong, sum2-cong}
 use Rattle.finite.proofs.Weighted.{weighted-cong, both-directions}
-use Rattle.surface.specs.Sheet.{functions, cells, steps}
-use Rattle.surface.specs.Support.{leastUnder, inRegion}
+use Rattle.surface.specs.Sheet.{functions, steps}
+use Rattle.surface.specs.Support.{inRegion}
 use Rattle.surface.specs.Spline.{cellOf, piece, splineAt}
 use Rattle.surface.specs.Truncation.{weight2, reading}
 use Rattle.surface.specs.Carry.{carried}

@@ -1,20 +1,18 @@
 -- Demand 3, refinement: where the regions rise and the carried values become the coefficients, no reading moves.
-use mathlib.Core.Path.{_≡_, refl, sym, ap, _∙_}
-use mathlib.Core.Bool.{Bool, true, false, cond}
-use Prim.Native.Nat.{ℕ, zero, suc, _+_, _*_, _≤_, _<_}
+use mathlib.Core.Path.{_≡_, sym, ap, _∙_}
+use Prim.Native.Nat.{ℕ, zero, suc, _*_, _≤_, _<_}
 use native.Mathlib.Nat.{le-trans}
 use native.Mathlib.Decide.{decLe}
 use native.Mathlib.Omega.{arith}
-use lib.Dec.{leb, eqb, lit<, lit≤}
+use lib.Dec.{lit≤}
 use borrow.Author.Tests.{eq-eqb}
 use lib.IntN.{ℤ, pos, _*ℤ_}
-use Rattle.finite.specs.Range.{sum2}
 use Rattle.finite.proofs.Sum.{sum2-cong}
 use Rattle.finite.proofs.Weighted.{weighted-cong}
 use Rattle.surface.specs.Sheet.{functions, quarters}
-use Rattle.surface.specs.Support.{leastUnder, active}
+use Rattle.surface.specs.Support.{leastUnder}
 use Rattle.surface.specs.Spline.{splineAt}
-use Rattle.surface.specs.Truncation.{weight, weight2, reading}
+use Rattle.surface.specs.Truncation.{weight, reading}
 use Rattle.surface.specs.Carry.{carried, carriedOver}
 use Rattle.surface.proofs.Least.{leastUnder-parent, leastUnder-raise, leastUnder-le-3}
 use Rattle.surface.proofs.Carried.{factors, carried-own, carried-sum, carried-reading}

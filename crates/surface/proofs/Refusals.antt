@@ -4,9 +4,9 @@ use mathlib.Core.Path.{_≡_, refl, sym, ap, _∙_, subst}
 use mathlib.Core.Bool.{Bool, true, false, not, _&&_, _||_, cond}
 use mathlib.Core.List.{List, [], _∷_, _++_}
 use Prim.Native.Nat.{ℕ, zero, suc, _+_, _-_, _*_, _≤_, _<_}
-use native.Mathlib.Nat.{mul-comm, suc-add, add-suc}
+use native.Mathlib.Nat.{mul-comm}
 use native.Mathlib.Omega.{arith}
-use lib.IntN.{ℤ, pos, natAbs}
+use lib.IntN.{ℤ, natAbs}
 use lib.Dec.{leb, ltb, eqb, eqb·suc-zero}
 use borrow.Author.Tests.{ltb-false, eqb-true}
 use lib.ListN.{length, getD, drop, take, set, length-append, length-drop, length-set}
@@ -16,18 +16,16 @@ use Rattle.surface.specs.Sheet.{Box, goodSide, functions, quarters, onSh
 use Rattle.surface.specs.Support.{active}
 use Rattle.surface.specs.Carry.{carriedOver}
 use Rattle.surface.specs.Table.{cause, _orElse_, treeOf, formed, levels, places, start, slots, place}
-use Rattle.surface.specs.Table.{coefficients, limit}
-use Rattle.surface.specs.Table.{sliceOf, withinLimits, passiveZero, regionCause, tableCause}
-use Rattle.surface.specs.Calls.{Answer, refused, gives, answer, afterwards, put, Written, written, Done}
-use Rattle.surface.specs.Calls.{lengthCause, treeOutCause, boxCause, pointCause, freshCause, freshOutcome}
-use Rattle.surface.specs.Calls.{freshCoefficients, newLevels, newTree, newCoefficients, insertCause}
-use Rattle.surface.specs.Calls.{insertOutcome, setCause, setOutcome}
-use Rattle.surface.specs.Calls.{activityBytes, activityCause, activityOutcome, leastOutcome, readingCause}
-use Rattle.surface.specs.Calls.{exactOutcome, displayOutcome, costOutcome, indexFits, index}
+use Rattle.surface.specs.Table.{coefficients, limit, sliceOf, withinLimits, passiveZero, regionCause, tableCause}
+use Rattle.surface.specs.Calls.{refused, gives, answer, afterwards, put, written, lengthCause, treeOutCause}
+use Rattle.surface.specs.Calls.{pointCause, freshCause, freshOutcome, freshCoefficients, newLevels, newTree}
+use Rattle.surface.specs.Calls.{newCoefficients, insertCause, insertOutcome, setCause, setOutcome, activityBytes}
+use Rattle.surface.specs.Calls.{activityCause, activityOutcome, leastOutcome, readingCause, exactOutcome}
+use Rattle.surface.specs.Calls.{displayOutcome, costOutcome, indexFits, index}
 use Rattle.surface.specs.TableFile.{lengthAt, fieldOr, field, loaded, activeCount, allWithin, Loaded}
 use Rattle.surface.specs.TableFile.{File, declined, contains, fileOr, inField, levelFields, fileContents}
 use Rattle.surface.specs.TableFile.{fileOutcomeOf, fileOutcome}
-use Rattle.surface.specs.Demands.{among, RefusesWith, WritesAllOrNothing, WritesPlaceOrNothing, Refusals}
+use Rattle.surface.specs.Demands.{among, RefusesWith, WritesAllOrNothing, WritesSliceOrNothing, Refusals}
 use Rattle.surface.proofs.TableLaws.{orElse-none, cause-none, slice-length, start-step}
 
 -- ---- answers
@@ -116,10 +114,10 @@ all-or-nothing js c a tree numbers treeOut numbersOut o ht hn =
       );
     }
 
-place-or-nothing : {A : Type 0} (js : List ℕ) (c : ℕ) (lent new : List A) → OneOf c js →
+slice-or-nothing : {A : Type 0} (js : List ℕ) (c : ℕ) (lent new : List A) → OneOf c js →
     (c ≡ 0 → length new ≡ length lent)
-    → WritesPlaceOrNothing js (record { result = answer c tt; after = afterwards c lent new }) lent
-place-or-nothing js c lent new o h =
+    → WritesSliceOrNothing js (record { result = answer c tt; after = afterwards c lent new }) lent
+slice-or-nothing js c lent new o h =
     record { number = sent c tt js o; refusal = λ n e. kept c tt lent new n e; lengths = length-after c lent new h }
 
 pub cause-off : (j : ℕ) (t : Bool) → cause (suc j) t ≡ 0 → t ≡ false
@@ -191,14 +189,14 @@ insert-refusals W H t cs box level treeOut numbersOut =
     (λ e. slice-length W H new ∙ sym (outputs (slots W H) tree treeOut numbersOut (out e) .1))
 
 set-refusals : (W H : ℕ) (t : List ℕ) (cs : List ℤ) (L : ℕ) (i j number : ℤ)
-    → WritesPlaceOrNothing (1 ∷ 2 ∷ 3 ∷ 4 ∷ 5 ∷ 8 ∷ 9 ∷ 10 ∷ []) (setOutcome W H t cs L i j number) cs
+    → WritesSliceOrNothing (1 ∷ 2 ∷ 3 ∷ 4 ∷ 5 ∷ 8 ∷ 9 ∷ 10 ∷ []) (setOutcome W H t cs L i j number) cs
 unfolding setOutcome setCause
 set-refusals W H t cs L i j number =
     let js : List ℕ = 1 ∷ 2 ∷ 3 ∷ 4 ∷ 5 ∷ 8 ∷ 9 ∷ 10 ∷ [] in
     let c0 = tableCause W H t cs in
     let b9 = not (indexFits W L i && indexFits H L j && active W H (levels t) L (index i) (index j)) in
     let b10 = ltb (limit L) (natAbs number) in
-    place-or-nothing js (setCause W H t cs L i j number) cs (set cs (place W H L (index i) (index j)) number)
+    slice-or-nothing js (setCause W H t cs L i j number) cs (set cs (place W H L (index i) (index j)) number)
     (one-or c0 (cause 8 (ltb 3 L) orElse cause 9 b9 orElse cause 10 b10) js
     (one-table js refl refl refl refl refl W H t cs)
     (one-or (cause 8 (ltb 3 L)) (cause 9 b9 orElse cause 10 b10) js (one-cause 8 (ltb 3 L) js refl)
@@ -206,7 +204,7 @@ set-refusals W H t cs L i j number =
     (λ _. length-set cs (place W H L (index i) (index j)) number)
 
 activity-refusals : (W H : ℕ) (t : List ℕ) (L : ℕ) (out : List ℕ)
-    → WritesPlaceOrNothing (1 ∷ 2 ∷ 8 ∷ 16 ∷ []) (activityOutcome W H t L out) out
+    → WritesSliceOrNothing (1 ∷ 2 ∷ 8 ∷ 16 ∷ []) (activityOutcome W H t L out) out
 unfolding activityOutcome activityCause activityBytes
 activity-refusals W H t L out =
     let js : List ℕ = 1 ∷ 2 ∷ 8 ∷ 16 ∷ [] in
@@ -215,7 +213,7 @@ activity-refusals W H t L out =
     let c16 = lengthCause (places W H L) out in
     let b16 = eqb (length out) (places W H L) in
     let bits : ℕ → ℕ → ℕ = λ a b. cond (active W H (levels t) L a b) 1 0 in
-    place-or-nothing js (activityCause W H t L out) out (grid (functions W L) (functions H L) bits)
+    slice-or-nothing js (activityCause W H t L out) out (grid (functions W L) (functions H L) bits)
     (one-or c0 (c8 orElse c16) js (one-region js refl refl W H t)
     (one-or c8 c16 js (one-cause 8 (ltb 3 L) js refl) (one-cause 16 (not b16) js refl)))
     (λ e. length-grid (functions W L) (functions H L) bits

@@ -4,19 +4,20 @@ use mathlib.Core.Bool.{Bool, true, false, not, _&&_, _||_}
 use mathlib.Core.List.{List, [], _∷_, _++_}
 use Prim.Native.Nat.{ℕ, zero, suc, _+_, _-_, _*_, _≤_, _<_}
 use native.Mathlib.Nat.{mul-comm, add-zero, zero-add, suc-add, add-suc, le-refl}
+use native.Mathlib.Decide.{decLt}
 use native.Mathlib.Omega.{arith}
 use lib.IntN.{ℤ, pos, negsuc, natAbs}
 use lib.Dec.{leb, eqb, T}
 use borrow.Author.Tests.{leb-true, le-leb, eqb-true, eq-eqb}
 use lib.ListN.{length, getD, length-append, List·getD-append}
 use lib.Seq.{getD-append-add}
-use Rattle.finite.specs.Range.{every, every2, grid}
-use Rattle.finite.proofs.Table.{length-grid, getD-grid, place-below}
+use Rattle.finite.specs.Range.{every2, grid}
+use Rattle.finite.proofs.Table.{length-grid, getD-grid, place-below, place-inj}
 use Rattle.finite.proofs.Tests.{every-true, every-intro, every2-true, every2-intro}
 use Rattle.surface.specs.Sheet.{goodSide, functions}
 use Rattle.surface.specs.Quadtree.{Quadtree, Parsed, none, found, parse, wellFormed, levelAt}
 use Rattle.surface.specs.Support.{active}
-use Rattle.surface.specs.Table.{cause, _orElse_, treeOf, formed, regionsOf, levels, places, start, slots, place}
+use Rattle.surface.specs.Table.{cause, _orElse_, treeOf, formed, levels, places, start, slots, place}
 use Rattle.surface.specs.Table.{coefficients, sliceFrom, sliceOf, limit, everywhere, withinLimits, passiveZero}
 use Rattle.surface.specs.Table.{regionCause, tableCause, Acceptable}
 use Rattle.surface.proofs.Least.{both, and-intro}
@@ -29,6 +30,11 @@ orElse-none (suc m) n e = absurd (omega arith)
 
 pub none-orElse : (m n : ℕ) → m ≡ 0 → n ≡ 0 → m orElse n ≡ 0
 none-orElse m n p q = rw (p, q)
+
+-- the first cause, where it applies
+pub orElse-first : (m n : ℕ) → (m ≡ 0 → ⊥) → m ≡ m orElse n
+orElse-first zero n h = absurd (h refl)
+orElse-first (suc m) n h = refl
 
 pub cause-none : (n : ℕ) (t : Bool) → cause (suc n) (not t) ≡ 0 → t ≡ true
 cause-none n true e = refl
@@ -76,12 +82,14 @@ pub start-mono : (W H k L : ℕ) → start W H L ≤ start W H (k + L)
 start-mono W H zero L = rw (zero-add L) (le-refl (start W H L))
 start-mono W H (suc k) L = rw (suc-add k L) (omega (arith, start-mono W H k L, start-step W H (k + L)))
 
+pub start-le : (W H L M : ℕ) → L ≤ M → start W H L ≤ start W H M
+start-le W H L M h =
+    let e : M - L + L ≡ M = omega arith in
+    subst (λ k. start W H L ≤ start W H k) e (start-mono W H (M - L) L)
+
 -- a level's part ends before a later level's starts
 pub start-before : (W H L M : ℕ) → L < M → start W H L + places W H L ≤ start W H M
-start-before W H L M h =
-    let e : M - suc L + suc L ≡ M = omega arith in
-    subst (λ k. k ≤ start W H M) (start-step W H L)
-    (subst (λ k. start W H (suc L) ≤ start W H k) e (start-mono W H (M - suc L) (suc L)))
+start-before W H L M h = subst (λ k. k ≤ start W H M) (start-step W H L) (start-le W H (suc L) M h)
 
 module _ (W H : ℕ) (f : ℕ → ℕ → ℕ → ℤ) where
   abbrev part : ℕ → List ℤ
@@ -162,6 +170,20 @@ place-before W H L M a b h ha hb =
 pub place-in-slice : (W H L a b : ℕ) → L < 4 → a < functions W L → b < functions H L → place W H L a b < slots W H
 place-in-slice W H L a b hL ha hb = place-before W H L 4 a b hL ha hb
 
+-- two functions with one place are one function
+pub place-unique : (W H L a b M c d : ℕ) → a < functions W L → b < functions H L → c < functions W M
+    → d < functions H M → place W H L a b ≡ place W H M c d → (L ≡ M) × (a ≡ c) × (b ≡ d)
+place-unique W H L a b M c d ha hb hc hd e = go (decLt L M) (decLt M L)
+  where
+    go : Dec (L < M) → Dec (M < L) → (L ≡ M) × (a ≡ c) × (b ≡ d)
+    go (yes l) m = absurd (omega (arith, place-before W H L M a b l ha hb))
+    go (no l) (yes m) = absurd (omega (arith, place-before W H M L c d m hc hd))
+    go (no l) (no m) =
+        let same : L ≡ M = omega arith in
+        let p = place-inj (functions W M) a b c d (subst (λ K. a < functions W K) same ha) hc
+        (omega (arith, subst (λ K. place W H K a b ≡ place W H M c d) same e)) in
+        (same, p .0, p .1)
+
 -- ---- tests at each function
 
 module _ (W H : ℕ) (p : ℕ → ℕ → ℕ → Bool) where
@@ -188,6 +210,12 @@ pub record Sound (W H : ℕ) (t : List ℕ) (cs : List ℤ) : Type 0 where
       → active W H (levels t) L a b ≡ true → natAbs (coefficients W H cs L a b) ≤ limit L
   pub passive : (L a b : ℕ) → L < 4 → a < functions W L → b < functions H L
       → active W H (levels t) L a b ≡ false → coefficients W H cs L a b ≡ pos 0
+
+pub sides : {W H : ℕ} {t : List ℕ} {cs : List ℤ} → Sound W H t cs → (0 < W) × (W ≤ 8) × (0 < H) × (H ≤ 8)
+sides {W} {H} s =
+    let w = good-side W (s .side-W) in
+    let h = good-side H (s .side-H) in
+    (w .0, w .1, h .0, h .1)
 
 -- a test that is only asked where another passes, or fails
 pub when-active : (t s : Bool) → (not t || s) ≡ true → t ≡ true → s ≡ true

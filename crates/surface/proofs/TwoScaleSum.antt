@@ -1,12 +1,12 @@
 -- The two-scale relation as document 01 states it: over all functions of the finer level.
-use mathlib.Core.Path.{_≡_, refl, sym, ap, _∙_}
-use Prim.Native.Nat.{ℕ, suc, _+_, _*_, _^_, _≤_, _<_}
+use mathlib.Core.Path.{_≡_, sym, ap, _∙_}
+use Prim.Native.Nat.{ℕ, suc, _*_, _^_, _≤_, _<_}
 use native.Mathlib.Nat.{add-zero, mul-zero}
 use native.Mathlib.Omega.{arith}
-use lib.IntN.{ℤ, pos}
+use lib.IntN.{pos}
 use Rattle.finite.specs.Range.{sum}
 use Rattle.finite.proofs.Sum.{sum-window}
-use Rattle.surface.specs.Sheet.{functions, eighths, steps}
+use Rattle.surface.specs.Sheet.{functions, steps}
 use Rattle.surface.specs.Spline.{cellOf, splineAt}
 use Rattle.surface.specs.Truncation.{weight}
 use Rattle.surface.proofs.SplinePiece.{cube}

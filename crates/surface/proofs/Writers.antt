@@ -1,32 +1,28 @@
 -- A fresh table is acceptable, and an accepted set leaves one.
-use mathlib.Core.Path.{_≡_, refl, sym, ap, _∙_, subst}
-use mathlib.Core.Logic.{_⊎_, inl, inr}
-use mathlib.Core.Bool.{Bool, true, false, not, _&&_, cond}
-use mathlib.Core.List.{List, [], _∷_, _++_}
-use Prim.Native.Nat.{ℕ, zero, suc, _+_, _-_, _*_, _/_, _≤_, _<_}
-use native.Mathlib.Nat.{mul-comm, le-trans}
-use native.Mathlib.Decide.{ℕ-discrete, decLt}
+use mathlib.Core.Path.{_≡_, refl, sym, _∙_, subst}
+use mathlib.Core.Bool.{true, false, not, _&&_}
+use mathlib.Core.List.{List, [], _∷_}
+use Prim.Native.Nat.{ℕ, zero, suc, _/_, _≤_, _<_}
+use native.Mathlib.Decide.{ℕ-discrete}
 use native.Mathlib.Omega.{arith}
 use lib.IntN.{ℤ, pos, negsuc, natAbs, _+ℤ_}
-use lib.Dec.{leb, ltb, eqb, T, leb→le}
+use lib.Dec.{ltb, T, leb→le}
 use lib.Signed.{leZ, ltZ}
-use borrow.Author.Tests.{ltb-true, ltb-false, le-ltb, eq-eqb, ne-eqb, eqb-true}
+use borrow.Author.Tests.{ltb-true, ltb-false, eq-eqb}
 use lib.ListN.{length, getD, take, drop, set, length-set}
 use lib.Seq.{take-append-seam, getD-set-same, getD-set-other}
-use Rattle.finite.proofs.Table.{place-below, place-inj}
-use Rattle.surface.specs.Sheet.{goodSide, cells, functions, quarters}
-use Rattle.surface.specs.Quadtree.{leaf, found, parse, wellFormed, levelAt}
-use Rattle.surface.specs.Support.{lowEnd, highEnd, shares, leastUnder, active}
-use Rattle.surface.specs.Table.{cause, _orElse_, levels, places, start, slots, place, coefficients, sliceOf}
-use Rattle.surface.specs.Table.{limit}
-use Rattle.surface.specs.Table.{tableCause, Acceptable}
-use Rattle.surface.specs.Calls.{gives, answer, afterwards, put, lengthCause, treeOutCause, freshCause}
+use Rattle.surface.specs.Sheet.{goodSide, cells, functions}
+use Rattle.surface.specs.Quadtree.{leaf, parse, wellFormed, levelAt}
+use Rattle.surface.specs.Support.{lowEnd, shares, leastUnder, active}
+use Rattle.surface.specs.Table.{cause, _orElse_, levels, slots, place, coefficients, sliceOf, limit, tableCause}
+use Rattle.surface.specs.Table.{Acceptable}
+use Rattle.surface.specs.Calls.{gives, lengthCause, treeOutCause, freshCause}
 use Rattle.surface.specs.Calls.{freshCoefficients, freshOutcome, indexFits, index, setCause, setOutcome}
 use Rattle.surface.specs.Demands.{WritesAcceptable}
 use Rattle.surface.proofs.Least.{both, and-intro, leastWhere-le}
 use Rattle.surface.proofs.Selection.{touches, cell-shares}
-use Rattle.surface.proofs.TableLaws.{orElse-none, cause-none, good-side, Formed, Sound, sound, acceptable}
-use Rattle.surface.proofs.TableLaws.{slice-length, slice-coefficient, start-step, start-mono, place-in-slice}
+use Rattle.surface.proofs.TableLaws.{orElse-none, cause-none, good-side, Sound, sound, acceptable}
+use Rattle.surface.proofs.TableLaws.{slice-length, slice-coefficient, place-in-slice, place-unique}
 use Rattle.surface.proofs.Refusals.{answer-gives, cause-off}
 
 -- ---- fresh
@@ -104,33 +100,6 @@ index-below n L (negsuc m) e =
     small (suc zero) h = omega arith
     small (suc (suc zero)) h = omega arith
     small (suc (suc (suc m))) h = absurd (omega arith)
-
--- two functions with one place are one function
-place-unique : (W H L a b M c d : ℕ) → a < functions W L → b < functions H L → c < functions W M → d < functions H M
-    → place W H L a b ≡ place W H M c d → (L ≡ M) × (a ≡ c) × (b ≡ d)
-place-unique W H L a b M c d ha hb hc hd e = go (decLt L M) (decLt M L)
-  where
-    -- a place of a coarser level comes before the finer level's part
-    before : (L a b M c d : ℕ) → a < functions W L → b < functions H L → L < M → place W H L a b < place W H M c d
-    before L a b M c d ha hb l =
-        let k : M - suc L + suc L ≡ M = omega arith in
-        omega (
-          arith,
-          place-below (functions W L) (functions H L) a b ha hb,
-          start-step W H L,
-          mul-comm (functions W L)
-              (functions H L),
-          subst (λ j. start W H (suc L) ≤ start W H j) k (start-mono W H (M - suc L) (suc L)),
-        )
-
-    go : Dec (L < M) → Dec (M < L) → (L ≡ M) × (a ≡ c) × (b ≡ d)
-    go (yes l) m = absurd (omega (arith, before L a b M c d ha hb l))
-    go (no l) (yes m) = absurd (omega (arith, before M c d L a b hc hd m))
-    go (no l) (no m) =
-        let same : L ≡ M = omega arith in
-        let p = place-inj (functions W M) a b c d (subst (λ K. a < functions W K) same ha) hc
-        (omega (arith, subst (λ K. place W H K a b ≡ place W H M c d) same e)) in
-        (same, p .0, p .1)
 
 -- one active place set to a number within the limit
 set-sound : (W H : ℕ) (t : List ℕ) (cs : List ℤ) → Sound W H t cs → (L a b : ℕ) (number : ℤ) → L < 4 → a < functions

@@ -1,6 +1,6 @@
 -- Document 01, "Functions and coefficients": what an insertion does to the regions and to the coefficients.
-use mathlib.Core.Bool.{Bool, cond}
-use Prim.Native.Nat.{ℕ, zero, suc, _+_, max}
+use mathlib.Core.Bool.{cond}
+use Prim.Native.Nat.{ℕ, zero, suc, max}
 use lib.IntN.{ℤ, pos, _*ℤ_}
 use Rattle.finite.specs.Range.{sum2}
 use Rattle.surface.specs.Sheet.{Box, functions}

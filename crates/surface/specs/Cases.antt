@@ -5,7 +5,6 @@ use mathlib.Core.List.{List, [], _∷_, _++_}
 use Prim.Native.Nat.{ℕ, _+_, _*_, _^_}
 use lib.IntN.{ℤ, pos, negℤ}
 use lib.ListN.{replicate, take}
-use Rattle.surface.specs.Truncation.{D}
 use Rattle.surface.specs.Table.{levels, coefficients, tableCause}
 use Rattle.surface.specs.Patch.{patchReading}
 use Rattle.surface.specs.Calls.{refused, gives, freshOutcome, insertOutcome, setOutcome, activityOutcome}
@@ -33,7 +32,7 @@ Children =
     × (leastOutcome 8 8 mixed (box 0 0 32 32) ≡ gives (record { level = 0; visited = 9 }))
     × (leastOutcome 2 2 refined (box 4 0 8 8) ≡ gives (record { level = 0; visited = 5 }))
 
--- A box in the second cell along u: 4 4 0 4 1 and eight 0.
+-- A box over the third cell along u: 4 4 0 4 1 and eight 0.
 abbrev pub EastBox : Type 0
 EastBox =
     insertOutcome 3 1 flat (zeros 471) (box 8 0 12 4) 1 (replicate 13 9) (zeros 471) .tree
@@ -67,6 +66,12 @@ NewTree =
     × (insertOutcome 1 1 t17 (zeros 211) (box 0 0 4 4) 4 [] (pos 7 ∷ []) .result ≡ refused 8)
     × (insertOutcome 1 1 t17 (zeros 211) (box 2 0 2 4) 4 [] (pos 7 ∷ []) .result ≡ refused 7)
 
+-- "level not 1 to 3 (insert) or 0 to 3 (set, activity)": insert refuses level 0.
+abbrev pub LevelZero : Type 0
+LevelZero =
+    insertOutcome 1 1 flat (zeros 211) (box 0 0 4 4) 0 (replicate 13 9) (replicate 211 (pos 7))
+    ≡ record { result = refused 8; tree = replicate 13 9; numbers = replicate 211 (pos 7) }
+
 abbrev pub Activity : Type 0
 Activity =
     (activityOutcome 2 1 refined 0 (replicate 19 9) ≡ record { result = refused 16; after = replicate 19 9 })
@@ -85,6 +90,14 @@ Sets =
     × (setOutcome 1 1 flat S 4 (pos 1) (pos 0) (pos 5) ≡ record { result = refused 8; after = S })
     × (setOutcome 1 1 flat S 0 (pos 0) (pos 0) (pos 32001) ≡ record { result = refused 10; after = S })
 
+-- "at most 32,000×64^L in size", of set at level 1: function (1, 1) has the last place of its level.
+abbrev pub SetsFine : Type 0
+SetsFine =
+    (setOutcome 1 1 refined (zeros 211) 1 (pos 1) (pos 1) (pos 2048000)
+    ≡ record { result = gives tt; after = zeros 40 ++ (pos 2048000 ∷ zeros 170) })
+    × (setOutcome 1 1 refined (zeros 211) 1 (pos 1) (pos 1) (pos 2048001)
+    ≡ record { result = refused 10; after = zeros 211 })
+
 abbrev pub Fresh : Type 0
 Fresh =
     (freshOutcome 1 1 (pos 32000) (9 ∷ 8 ∷ []) (replicate 211 (pos 7))
@@ -101,6 +114,22 @@ Declined =
     × (costOutcome 1 1 flat S 64 5 100000 ≡ refused 11)
     × (costOutcome 1 1 flat S 129 5 100000 ≡ refused 6)
 
+-- A passive place of the unrefined sheet that is not 0.
+abbrev pub stray : List ℤ
+stray = zeros 16 ++ (pos 1 ∷ zeros 194)
+
+-- "The lowest number that applies is given": 5 before 6, 7 and 8; 9 before 10; 10 before 16; 2 before 7 and 8.
+abbrev pub LowestGiven : Type 0
+LowestGiven =
+    (exactOutcome 1 1 flat stray 129 0 ≡ refused 5)
+    × (insertOutcome 1 1 flat stray (box 0 0 5 4) 1 flat (zeros 211) .result ≡ refused 5)
+    × (insertOutcome 1 1 flat stray (box 0 0 4 4) 0 flat (zeros 211) .result ≡ refused 5)
+    × (setOutcome 1 1 flat stray 4 (pos 0) (pos 0) (pos 5) .result ≡ refused 5)
+    × (setOutcome 1 1 flat S 0 (pos 1) (pos 0) (pos 32001) .result ≡ refused 9)
+    × (freshOutcome 1 1 (pos 32001) flat [] .result ≡ refused 10)
+    × (leastOutcome 1 1 (1 ∷ []) (box 0 0 5 4) ≡ refused 2)
+    × (activityOutcome 1 1 (1 ∷ []) 4 [] .result ≡ refused 2)
+
 -- ---- roundings
 
 -- "halves upward, also below zero (−0.5 gives 0)"; −1.5 gives −1
@@ -114,6 +143,17 @@ Rounded =
 -- "tariff 1,499 costs 1, tariff 1,500 costs 2", of 1 watt; "0 for watts of 0 or less"
 abbrev pub Costs : Type 0
 Costs = (costOf (pos 1) 1499 ≡ 1) × (costOf (pos 1) 1500 ≡ 2) × (costOf (negℤ (pos 9)) 99999 ≡ 0)
+
+-- "those whole watts times the tariff": half a watt shows as 1, which costs 100; the exact half would cost 50. (Proved
+-- in proofs/Bench.antt, where readings go by their patch.)
+abbrev pub halfWatt : List ℤ
+halfWatt = rows 4 (negℤ (pos 1) ∷ pos 0 ∷ pos 1 ∷ pos 2 ∷ []) ++ zeros 195
+
+abbrev pub WholeWattsPriced : Type 0
+WholeWattsPriced =
+    (exactOutcome 1 1 flat halfWatt 64 5 ≡ gives (pos (18 * 2 ^ 42)))
+    × (displayOutcome 1 1 flat halfWatt 64 5 ≡ gives (pos 1))
+    × (costOutcome 1 1 flat halfWatt 64 5 99999 ≡ gives 100)
 
 -- ---- the table file
 
@@ -156,3 +196,13 @@ Heads =
     × (fileOutcome (1 ∷ 0 ∷ 2 ∷ 1 ∷ 9 ∷ []) [] [] .result ≡ refused 1)
     × (fileOutcome (1 ∷ 0 ∷ 2 ∷ 1 ∷ 1 ∷ 2 ∷ 0 ∷ 0 ∷ []) [] [] .result ≡ refused 14)
     × (fileOutcome (1 ∷ 0 ∷ 2 ∷ 1 ∷ 1 ∷ 2 ∷ 0 ∷ 1 ∷ 1 ∷ []) [] [] .result ≡ refused 2)
+
+-- A 1 by 1 file that ends after tag 16's body: fifteen coefficients of 0 and one of 256×n + 1.
+abbrev pub cutAfter16 : ℕ → List ℕ
+cutAfter16 n = (1 ∷ 0 ∷ 2 ∷ 1 ∷ 1 ∷ 2 ∷ 0 ∷ 1 ∷ 0 ∷ 16 ∷ 0 ∷ 80 ∷ []) ++ (replicate 78 0 ++ (n ∷ 1 ∷ []))
+
+-- A field's "contents" before the next head: 32,001 gives 4; with 31,745 what counts is that tag 17 is missing.
+abbrev pub ContentsFirst : Type 0
+ContentsFirst =
+    (fileOutcome (cutAfter16 125) [] [] .result ≡ refused 4)
+    × (fileOutcome (cutAfter16 124) [] [] .result ≡ refused 12)

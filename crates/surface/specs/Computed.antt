@@ -1,12 +1,12 @@
 -- The definitions at work: the bench cases that compute outright and the further ones, so that a reader can hold them
 -- to document 01.
-use mathlib.Core.Path.{_≡_, refl}
+use mathlib.Core.Path.{refl}
 use Rattle.finite.specs.Range.{sum, every, count, total, least, tableFrom, rowsFrom}
 use Rattle.surface.specs.Sheet.{eighths}
 use Rattle.surface.specs.Quadtree.{bytes, parse, wellFormed, levelAt, regionTree, visits}
 use Rattle.surface.specs.Support.{leastUnder}
-use Rattle.surface.specs.Spline.{cellOf, piece, splineAt}
-use Rattle.surface.specs.Truncation.{weight, truncated}
+use Rattle.surface.specs.Spline.{cellOf, piece}
+use Rattle.surface.specs.Truncation.{weight}
 use Rattle.surface.specs.Carry.{carried}
 use Rattle.surface.specs.Patch.{patch, patchReading}
 use Rattle.surface.specs.Table.{levels, start, coefficients, sliceFrom, withinLimits, passiveZero, regionCause}
@@ -17,9 +17,9 @@ use Rattle.surface.specs.Calls.{readingCause, exactOutcome, displayOutco
 use Rattle.surface.specs.TableFile.{field, activeInRow, activeCount, activeBefore, allWithin, levelFields}
 use Rattle.surface.specs.TableFile.{fileContents, fileOutcome}
 use Rattle.surface.specs.Bench.{Inserted, Visited, TwoByOne, Trees, Past}
-use Rattle.surface.specs.Cases.{InsideCell, Children, EastBox, LimitFirst, NewTree}
-use Rattle.surface.specs.Cases.{Activity}
-use Rattle.surface.specs.Cases.{Sets, Fresh, Declined, Rounded, Costs, Files, Heads}
+use Rattle.surface.specs.Cases.{InsideCell, Children, EastBox, LimitFirst, NewTree, Activity, Sets, Fresh}
+use Rattle.surface.specs.Cases.{LevelZero, SetsFine, Declined, LowestGiven, Rounded, Costs, Files, Heads}
+use Rattle.surface.specs.Cases.{ContentsFirst}
 
 -- ---- of the bench sheet
 
@@ -79,6 +79,11 @@ unfolding insertOutcome insertCause newTree newCoefficients bytes regionTree car
     tableFrom rowsFrom
 new-tree = (refl, refl, refl, refl, refl)
 
+pub level-zero : LevelZero
+unfolding insertOutcome insertCause tableCause regionCause withinLimits passiveZero every leastUnder least eighths
+    levels levelAt parse wellFormed start coefficients
+level-zero = refl
+
 pub activity : Activity
 unfolding activityOutcome activityCause activityBytes regionCause parse wellFormed
 activity = (refl, refl)
@@ -89,6 +94,11 @@ unfolding setOutcome setCause tableCause regionCause withinLimits passiveZero ev
     parse wellFormed start coefficients
 sets = (refl, refl, refl, refl, refl)
 
+pub sets-fine : SetsFine
+unfolding setOutcome setCause tableCause regionCause withinLimits passiveZero every leastUnder least eighths levels
+    levelAt parse wellFormed start coefficients
+sets-fine = (refl, refl)
+
 pub fresh : Fresh
 unfolding freshOutcome start sliceFrom tableFrom rowsFrom
 fresh = (refl, refl, refl, refl, refl)
@@ -98,6 +108,12 @@ unfolding displayOutcome costOutcome readingCause tableCause regionCause withinL
     least
     eighths levels levelAt parse wellFormed start coefficients
 declined = (refl, refl, refl)
+
+pub lowest-given : LowestGiven
+unfolding exactOutcome readingCause insertOutcome insertCause setOutcome setCause freshOutcome leastOutcome
+    activityOutcome activityCause tableCause regionCause withinLimits passiveZero every leastUnder least eighths levels
+    levelAt parse wellFormed start coefficients
+lowest-given = (refl, refl, refl, refl, refl, refl, refl, refl)
 
 pub rounded : Rounded
 unfolding wholeWatts
@@ -114,3 +130,8 @@ files = (refl, refl, refl, refl, refl, refl)
 pub heads : Heads
 unfolding fileOutcome fileContents levelFields field parse wellFormed
 heads = (refl, refl, refl, refl, refl, refl, refl, refl)
+
+pub contents-first : ContentsFirst
+unfolding fileOutcome fileContents levelFields field activeCount activeInRow allWithin total count every leastUnder
+    least eighths levels levelAt parse wellFormed
+contents-first = (refl, refl)

@@ -1,8 +1,9 @@
 -- Document 00's demands, and document 01's "What each call is held to", as statements about the outcomes of the calls.
--- Each is proved under its name in proofs/Demands.antt or proofs/Refusals.antt.
+-- Each is proved under its name in proofs/Demands.antt (Untruncated as not-truncated, OneTree as one-tree-each), but
+-- for Refusals in proofs/Refusals.antt and WritesAcceptable in proofs/Writers.antt.
 use mathlib.Core.Path.{_≡_}
 use mathlib.Core.Logic.{_↔_}
-use mathlib.Core.Bool.{Bool, true, false, _&&_, _||_, cond}
+use mathlib.Core.Bool.{Bool, true, false, _||_, cond}
 use mathlib.Core.List.{List, [], _∷_}
 use Prim.Native.Nat.{ℕ, suc, _+_, _*_, _/_, _^_, _≤_, _<_, max}
 use lib.IntN.{ℤ, pos, natAbs, _+ℤ_, _*ℤ_}
@@ -15,12 +16,10 @@ use Rattle.surface.specs.Support.{lowEnd, highEnd, active, holdsAlong, h
 use Rattle.surface.specs.Spline.{splineAt}
 use Rattle.surface.specs.Truncation.{D, weight, truncated}
 use Rattle.surface.specs.Patch.{patch, patchReading}
-use Rattle.surface.specs.Table.{treeOf, formed, levels, slots, coefficients, limit, regionCause, Acceptable}
-use Rattle.surface.specs.Table.{tableReading}
-use Rattle.surface.specs.Calls.{Answer, refused, gives, Written, Done, LeastLevel, freshOutcome, insertOutcome}
-use Rattle.surface.specs.Calls.{setOutcome, activityOutcome, leastOutcome, exactOutcome, displayOutcome}
-use Rattle.surface.specs.Calls.{costOutcome}
-use Rattle.surface.specs.TableFile.{FileResult, fileOutcome}
+use Rattle.surface.specs.Table.{treeOf, formed, levels, slots, coefficients, limit, Acceptable, tableReading}
+use Rattle.surface.specs.Calls.{Answer, refused, gives, Written, Done, freshOutcome, insertOutcome, setOutcome}
+use Rattle.surface.specs.Calls.{activityOutcome, leastOutcome, exactOutcome, displayOutcome, costOutcome}
+use Rattle.surface.specs.TableFile.{fileOutcome}
 
 -- ---- demand 1: "a call gives its full result, or one refusal number from document 01 and writes nothing"
 
@@ -39,7 +38,8 @@ pub record WritesAllOrNothing {A : Type 0} (numbers : List ℕ) (o : Written A) 
   pub refusal : (n : ℕ) → o .result ≡ refused n → (o .tree ≡ treeOut) × (o .numbers ≡ numbersOut)
   pub lengths : (length (o .tree) ≡ length treeOut) × (length (o .numbers) ≡ length numbersOut)
 
-pub record WritesPlaceOrNothing {A : Type 0} (numbers : List ℕ) (o : Done A) (lent : List A) : Type 0 where
+-- The same of a call that writes to one lent slice: set to one place of it, activity to all of it.
+pub record WritesSliceOrNothing {A : Type 0} (numbers : List ℕ) (o : Done A) (lent : List A) : Type 0 where
   pub number : RefusesWith numbers (o .result)
   pub refusal : (n : ℕ) → o .result ≡ refused n → o .after ≡ lent
   pub lengths : length (o .after) ≡ length lent
@@ -51,9 +51,9 @@ pub record Refusals : Type 0 where
       → WritesAllOrNothing (1 ∷ 2 ∷ 3 ∷ 4 ∷ 5 ∷ 7 ∷ 8 ∷ 16 ∷ 17 ∷ [])
       (insertOutcome W H t cs box level treeOut numbersOut) treeOut numbersOut
   pub set : (W H : ℕ) (t : List ℕ) (cs : List ℤ) (L : ℕ) (i j number : ℤ)
-      → WritesPlaceOrNothing (1 ∷ 2 ∷ 3 ∷ 4 ∷ 5 ∷ 8 ∷ 9 ∷ 10 ∷ []) (setOutcome W H t cs L i j number) cs
+      → WritesSliceOrNothing (1 ∷ 2 ∷ 3 ∷ 4 ∷ 5 ∷ 8 ∷ 9 ∷ 10 ∷ []) (setOutcome W H t cs L i j number) cs
   pub activity : (W H : ℕ) (t : List ℕ) (L : ℕ) (out : List ℕ)
-      → WritesPlaceOrNothing (1 ∷ 2 ∷ 8 ∷ 16 ∷ []) (activityOutcome W H t L out) out
+      → WritesSliceOrNothing (1 ∷ 2 ∷ 8 ∷ 16 ∷ []) (activityOutcome W H t L out) out
   pub least : (W H : ℕ) (t : List ℕ) (box : Box) → RefusesWith (1 ∷ 2 ∷ 7 ∷ []) (leastOutcome W H t box)
   pub exact : (W H : ℕ) (t : List ℕ) (cs : List ℤ) (u v : ℕ)
       → RefusesWith (1 ∷ 2 ∷ 3 ∷ 4 ∷ 5 ∷ 6 ∷ []) (exactOutcome W H t cs u v)
@@ -93,13 +93,14 @@ SupportIsWhereNotZero =
     → ((x : ℕ) → x < 8 * n → ((lowEnd L a ≤ x) × (x < highEnd n L a)) ↔ (0 < splineAt n L a (16 * x + 8)))
     × ((u : ℕ) → u ≤ 128 * n → (holdsAlong L a u ≡ true) ↔ (0 < splineAt n L a u))
 
--- "A level L function (i, j) is the product of two uniform cubic B-splines": so is its truncated function, where no
--- finer function's support lies in its region.
+-- "A level L function (i, j) is the product of two uniform cubic B-splines": so is its truncated function at a point,
+-- when of the finer functions whose support holds the point none has its cut support in the region of its level.
 abbrev pub Untruncated : Type 0
 Untruncated =
     (W H : ℕ) (lev : ℕ → ℕ → ℕ) (u v : ℕ) → 0 < W → 0 < H → u ≤ 128 * W → v ≤ 128 * H
     → (n L a b : ℕ) → n + L ≡ 3
-    → ((M c d : ℕ) → L < M → M ≤ 3 → inRegion W H lev M c d ≡ false)
+    → ((M c d : ℕ) → L < M → M ≤ 3 → c < functions W M → d < functions H M → holds M c d u v ≡ true
+    → inRegion W H lev M c d ≡ false)
     → truncated W H lev u v n L a b ≡ pos (splineAt W L a u * splineAt H L b v)
 
 -- ---- demand 2: "A box insertion raises lower levels inside the box to the one named, and changes no others."

@@ -1,7 +1,7 @@
 -- Document 01, "Readings": "The work is on a four by four patch of coefficients, subdivided from level to level"
 -- (algorithm EVAL_THB of source document 003). That it gives the exact reading is the theorem `patch-reading`.
 use mathlib.Core.Bool.{cond}
-use mathlib.Core.List.{List, [], _∷_}
+use mathlib.Core.List.{[], _∷_}
 use Prim.Native.Nat.{ℕ, zero, suc, _+_, _-_, _*_, _/_, _%_}
 use lib.IntN.{ℤ, pos, _*ℤ_}
 use lib.Dec.{eqb}

@@ -1,7 +1,7 @@
 -- Document 01, "Regions": the tree that gives each quarter square its level, how it is written, and its form.
 use mathlib.Core.Bool.{Bool, true, false, not, _&&_, _||_, cond}
 use mathlib.Core.List.{List, [], _∷_, _++_}
-use Prim.Native.Nat.{ℕ, zero, suc, _+_, _-_, _*_, _^_}
+use Prim.Native.Nat.{ℕ, zero, suc, _+_, _-_, _^_}
 use lib.Dec.{leb, ltb, eqb}
 use Rattle.surface.specs.Sheet.{Box, quarters}
 

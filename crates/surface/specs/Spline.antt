@@ -1,7 +1,7 @@
 -- Document 01, "The sheet and its grids": the uniform cubic B-splines of a level at a point, as whole numerators.
 -- With s steps to a cell and the point r steps into it, t = r/s, and each value is its numerator over 6×s³.
 use mathlib.Core.Bool.{cond}
-use mathlib.Core.List.{List, [], _∷_}
+use mathlib.Core.List.{[], _∷_}
 use Prim.Native.Nat.{ℕ, _+_, _-_, _*_, _/_, _^_, min}
 use lib.Dec.{leb}
 use lib.ListN.{getD}

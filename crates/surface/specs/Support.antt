@@ -2,7 +2,7 @@
 -- squares under them, and which functions are active. The regions are given by lev, the level of quarter square (q,
 -- r).
 use mathlib.Core.Bool.{Bool, _&&_, cond}
-use Prim.Native.Nat.{ℕ, suc, _+_, _-_, _*_, min}
+use Prim.Native.Nat.{ℕ, _+_, _-_, _*_, min}
 use lib.Dec.{leb, ltb, eqb}
 use Rattle.finite.specs.Range.{least}
 use Rattle.surface.specs.Sheet.{Box, eighths, steps, quarters}

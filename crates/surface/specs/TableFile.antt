@@ -1,7 +1,7 @@
 -- Document 01, "The table file": what loading a file gives, judged in byte order: "whole head, tag, length, whole
 -- body, contents; after the last field 15, 16, 17".
-use mathlib.Core.Bool.{Bool, true, false, not, _&&_, cond}
-use mathlib.Core.List.{List, [], _∷_, _++_}
+use mathlib.Core.Bool.{Bool, not, _&&_, cond}
+use mathlib.Core.List.{List, [], _++_}
 use Prim.Native.Nat.{ℕ, zero, suc, _+_, _-_, _*_, _^_}
 use lib.IntN.{ℤ, pos, negsuc, natAbs}
 use lib.Dec.{leb, ltb, eqb}
@@ -70,7 +70,7 @@ activeBefore W H lev L a b =
 abbrev pub loaded : ℕ → ℕ → (ℕ → ℕ → ℕ) → ℕ → List ℕ → ℕ → ℕ → ℤ
 loaded W H lev L b a c = cond (active W H lev L a c) (numberAt b (activeBefore W H lev L a c)) (pos 0)
 
--- The coefficients of the first n numbers of a level's body are within the limit.
+-- The first n coefficients of a level's body are within the limit.
 unfoldable pub allWithin : ℕ → ℕ → List ℕ → Bool
 allWithin L n b = every n (λ k. leb (natAbs (numberAt b k)) (limit L))
 

@@ -1,8 +1,8 @@
 -- Document 01, "Functions and coefficients": the two-scale relation, truncated functions, and the exact reading. A
--- level L function's value at a point is a numerator over 36×(steps L)⁶. One level up that is 64 times less, which is
--- the "over 8, in each direction" of the weights, so the relation holds of the numerators with the bare weights.
-use mathlib.Core.Bool.{Bool, cond}
-use mathlib.Core.List.{List, [], _∷_}
+-- level L function's value at a point is a numerator over 36×(steps L)⁶. One level finer that is 64 times less, which
+-- is the "over 8, in each direction" of the weights, so the relation holds of the numerators with the bare weights.
+use mathlib.Core.Bool.{cond}
+use mathlib.Core.List.{[], _∷_}
 use Prim.Native.Nat.{ℕ, zero, suc, _+_, _-_, _*_, _^_}
 use lib.IntN.{ℤ, pos, _*ℤ_}
 use lib.Dec.{leb}

@@ -1,8 +1,8 @@
 -- The cause at each way out of `region_cause`, `box_cause` and `table_cause`.
-use mathlib.Core.Path.{_≡_, refl, sym, ap, ap₂, _∙_}
+use mathlib.Core.Path.{_≡_, sym, ap, ap₂, _∙_}
 use mathlib.Core.Bool.{Bool, true, not, Bool·not-not, _&&_, and-false}
 use mathlib.Core.List.{List}
-use Prim.Native.Nat.{ℕ, zero, suc, _+_, _*_, _/_, _%_, _≤_, _<_}
+use Prim.Native.Nat.{ℕ, _+_, _*_, _/_, _%_, _≤_, _<_}
 use native.Mathlib.Omega.{arith}
 use borrow.Author.Tests.{ltb-true, leb-true, lt-ltb, le-ltb, le-leb, lt-leb}
 use lib.Dec.{leb, ltb, eqb}
@@ -17,7 +17,7 @@ use Rattle.surface.specs.Table.{cause, _orElse_, treeOf, formed, levels, slots,
 use Rattle.surface.specs.Table.{withinLimits, passiveZero, regionCause, tableCause}
 use Rattle.surface.specs.Calls.{boxCause}
 use Rattle.surface.proofs.Least.{both, leastUnder-cong}
-use Rattle.surface.proofs.TableLaws.{orElse-none, cause-none, good-side}
+use Rattle.surface.proofs.TableLaws.{orElse-none, orElse-first, cause-none, good-side}
 use Rattle.quadtree.specs.Paint.{levelMap}
 use Rattle.quadtree.specs.Visit.{InSheet}
 use Rattle.activity.specs.Minima.{levelsOf}
@@ -69,11 +69,7 @@ module _ (W H : ℕ) (t : List ℕ) (cs : List ℤ) where
   table-region r e h =
       let rest = table 0 (eqb (length cs) (slots W H)) (withinLimits W H (levels t) (coefficients W H cs))
       (passiveZero W H (levels t) (coefficients W H cs)) in
-      first r h rest ∙ ap (λ r. r orElse rest) e
-    where
-      first : (r : ℕ) → (r ≡ 0 → ⊥) → (n : ℕ) → r ≡ r orElse n
-      first zero h n = absurd (h refl)
-      first (suc r) h n = refl
+      orElse-first r rest h ∙ ap (λ r. r orElse rest) e
 
 -- ---- the map of levels in place of the tree
 

@@ -9,7 +9,7 @@ use native.Mathlib.Omega.{arith}
 use lib.IntN.{ℤ, pos}
 use lib.ListN.{length, getD}
 use Rattle.finite.specs.Range.{every, every2}
-use Rattle.finite.proofs.Tests.{every-cong, every2-cong, every2-true, every2-intro}
+use Rattle.finite.proofs.Tests.{same-test, every-cong, every2-cong, every2-true, every2-intro}
 use Rattle.finite.proofs.Table.{place-below}
 use Rattle.surface.specs.Sheet.{functions}
 use Rattle.surface.specs.Support.{leastUnder}
@@ -36,14 +36,9 @@ lost-more n p e f g = g ∙ ap₂ _||_ e f ∙ not-and (every n p) (p n) ∙ ap 
 
 -- ---- rows outside and columns inside
 
-same : (x y : Bool) → (x ≡ true → y ≡ true) → (y ≡ true → x ≡ true) → x ≡ y
-same true y f g = sym (f refl)
-same false true f g = g refl
-same false false f g = refl
-
 every-swap : (n m : ℕ) (p : ℕ → ℕ → Bool) → every2 m n (λ b a. p a b) ≡ every2 n m p
 every-swap n m p =
-    same (every2 m n (λ b a. p a b)) (every2 n m p)
+    same-test (every2 m n (λ b a. p a b)) (every2 n m p)
     (λ e. every2-intro n m p (λ a b ha hb. every2-true m n (λ b a. p a b) e b a hb ha))
     (λ e. every2-intro m n (λ b a. p a b) (λ b a hb ha. every2-true n m p e a b ha hb))
 

@@ -5,3 +5,6 @@ pub mod ActiveLaws
 pub mod FileLaws
 pub mod LongLaws
 pub mod Theorems
+pub mod SavedLaws
+pub mod SavedLevels
+pub mod Saved

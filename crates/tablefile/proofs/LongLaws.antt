@@ -165,8 +165,8 @@ module _ (W H : ℕ) (t : List ℕ) where
 
 -- ---- the whole file
 
--- the fields of a file take at most 5, 1,368 and 30,992 bytes
-pub cut-contents : (s : List ℕ) (n : ℕ) → 65536 ≤ n → fileContents (take n s) ≡ fileContents s
+-- the fields of a file take at most 5, 1,368 and 30,992 bytes, and one more shows whether bytes follow them
+pub cut-contents : (s : List ℕ) (n : ℕ) → 32366 ≤ n → fileContents (take n s) ≡ fileContents s
 unfolding fileContents
 cut-contents s n h =
     let W = getD (bodyOf s) 0 0 in
@@ -177,7 +177,7 @@ cut-contents s n h =
     λ z.
     let good = both (goodSide W) (goodSide H) (cause-none 0 (goodSide W && goodSide H) z) in
     let small = levels-small W H (bodyOf (restOf s)) (good-side W (good .0) .1) (good-side H (good .1) .1) in
-    let rest : 65531 ≤ r = omega (arith, eqb-true (lengthAt s) 2 f) in
+    let rest : 32361 ≤ r = omega (arith, eqb-true (lengthAt s) 2 f) in
     cut-field 2 (λ m. leb 1 m && leb m 1365) r (restOf s) (omega arith)
     (λ f2. omega (arith, short f2)) _
     λ r2 e2 f2.

@@ -135,7 +135,7 @@ one-file-each s t bs bt f es et = same-file s t bs bt f (accepted s f es) (accep
 
 -- ---- long input
 
--- Input longer than any file is judged by its first 65,536 bytes.
+-- Input longer than any file is judged by its first 32,366 bytes.
 pub long-input : LongInput
 unfolding fileOutcome
 long-input s n h treeOut numbersOut = ap (λ f. fileOutcomeOf f treeOut numbersOut) (cut-contents s n h)

@@ -33,9 +33,10 @@ OneFileEach =
     (s t : List ℕ) → Bytes s → Bytes t
     → (f : Loaded) → fileContents s ≡ contains f → fileContents t ≡ contains f → s ≡ t
 
--- Input of any length is judged by its first 65,536 bytes, more than any file has: a program that holds these, or
--- more of its input, gets the whole input's refusal, result and outputs.
+-- Input of any length is judged by its first 32,366 bytes, one more than the longest file has: 5 for the sides, 1,368
+-- for the tree, four heads of 3 and 5 for each of 6,196 places. A caller who lends these, or more of the input, gets
+-- the whole input's refusal, result and outputs.
 abbrev pub LongInput : Type 0
 LongInput =
-    (s : List ℕ) (n : ℕ) → 65536 ≤ n → (treeOut : List ℕ) (numbersOut : List ℤ)
+    (s : List ℕ) (n : ℕ) → 32366 ≤ n → (treeOut : List ℕ) (numbersOut : List ℤ)
     → fileOutcome (take n s) treeOut numbersOut ≡ fileOutcome s treeOut numbersOut

@@ -1,9 +1,7 @@
 use mathlib.Core.Path.{sym, ap, _∙_}
 use Rattle.answers.specs.Answers.{displayAnswer}
-use Rattle.boundary.proofs.CodeLaws.{number-given, number-refused}
+use Rattle.boundary.proofs.CodeLaws.{signed-given, number-refused}
 use borrow.Author.Needs.{needs, sfits-of}
-use mir.Syntax.{w64}
-use mir.ValLaws.{toZ-ofZ}
 use Rattle.boundary.proofs.kiln_display.Statement.{statement}
 use Rattle.boundary.proofs.kiln_display.Tie as tie
 
@@ -18,10 +16,9 @@ enum-known-r-2 c = search needs
 
 returns : tie.Need-returns
 returns c =
-    let n = c .before .r .given .0 .0 in
-    let t = number-given n (c .before .before .before .before .before .args .watts .now)
-    (ap displayAnswer (sym (c .before .r .given .1)) ∙ c .before .before .before .display .ensures) in
-    (t .0, toZ-ofZ w64 n (sfits-of (c .known-told .given .0 .1)) ∙ t .1)
+    signed-given (c .before .r .given .0 .0) (c .before .before .before .before .before .args .watts .now)
+    (sfits-of (c .known-told .given .0 .1))
+    (ap displayAnswer (sym (c .before .r .given .1)) ∙ c .before .before .before .display .ensures)
 
 returns-2 : tie.Need-returns-2
 returns-2 c =

@@ -1,8 +1,6 @@
-use mathlib.Core.Path.{sym, ap, _∙_}
 use mir.Syntax.{w64}
 use mir.ValLaws.{toZ-ofZ}
-use Rattle.answers.specs.Answers.{lengthAnswer}
-use Rattle.boundary.proofs.CodeLaws.{number-given, number-refused}
+use Rattle.boundary.proofs.CodeLaws.{table-given, table-refused}
 use borrow.Author.Needs.{needs}
 use Rattle.boundary.proofs.kiln_fresh.Statement.{statement}
 use Rattle.boundary.proofs.kiln_fresh.Tie as tie
@@ -25,11 +23,9 @@ same-length-2 c = search needs
 returns : tie.Need-returns
 returns c =
     let s = c .before .before .before .before .before .before .before .before .before .before in
-    let e = rw (toZ-ofZ w64 (s .args .number) (s .fits .number)) at
-    (c .before .before .before .before .before .before .fresh .ensures) in
-    let t = number-given (c .before .r .given .0 .0) (s .args .length .now)
-    (ap lengthAnswer (sym (c .before .r .given .1)) ∙ e .0) in
-    (t .0, e .1, e .2, t .1)
+    table-given (c .before .r .given .0 .0) (s .args .tree-length .now) (c .before .r .given .1)
+    (rw (toZ-ofZ w64 (s .args .number) (s .fits .number)) at
+    (c .before .before .before .before .before .before .fresh .ensures))
 
 same-length-3 : tie.Need-same-length-3
 same-length-3 c = search needs
@@ -40,11 +36,9 @@ same-length-4 c = search needs
 returns-2 : tie.Need-returns-2
 returns-2 c =
     let s = c .before .before .before .before .before .before .before .before .before .before in
-    let e = rw (toZ-ofZ w64 (s .args .number) (s .fits .number)) at
-    (c .before .before .before .before .before .before .fresh .ensures) in
-    let t = number-refused (c .before .r2 .given .0 .0) (s .args .length .now)
-    (ap lengthAnswer (sym (c .before .r2 .given .1)) ∙ e .0) in
-    (t .0, e .1, e .2, t .1)
+    table-refused (c .before .r2 .given .0 .0) (s .args .tree-length .now) (c .before .r2 .given .1)
+    (rw (toZ-ofZ w64 (s .args .number) (s .fits .number)) at
+    (c .before .before .before .before .before .before .fresh .ensures))
 
 pub kiln-fresh-spec : {M : Type 1} → statement M
 kiln-fresh-spec =

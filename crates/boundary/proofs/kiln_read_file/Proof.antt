@@ -26,9 +26,9 @@ returns c =
     let e = c .before .before .before .before .before .before .read-file .ensures in
     let a = s .args in
     let t = file-given (c .before .r .given .0 .0) (c .before .r .given .0 .1 .0) (c .before .r .given .0 .1 .1 .0)
-    (a .length .now) (a .w .now) (a .h .now)
+    (a .tree-length .now) (a .w .now) (a .h .now)
     (ap fileAnswer (sym (c .before .r .given .1)) ∙ e .0) in
-    (t .0, e .1, e .2, t .1)
+    (t, e .1, e .2)
 
 same-length-3 : tie.Need-same-length-3
 same-length-3 c = search needs
@@ -41,9 +41,9 @@ returns-2 c =
     let s = c .before .before .before .before .before .before .before .before .before .before .before in
     let e = c .before .before .before .before .before .before .read-file .ensures in
     let a = s .args in
-    let t = file-refused (c .before .r2 .given .0 .0) (a .length .now) (a .w .now) (a .h .now)
+    let t = file-refused (c .before .r2 .given .0 .0) (a .tree-length .now) (a .w .now) (a .h .now)
     (ap fileAnswer (sym (c .before .r2 .given .1)) ∙ e .0) in
-    (t .0, e .1, e .2, t .1)
+    (t, e .1, e .2)
 
 pub kiln-read-file-spec : {M : Type 1} → statement M
 kiln-read-file-spec =

@@ -1,6 +1,7 @@
-use mathlib.Core.Path.{sym, ap, _∙_}
+use mathlib.Core.Path.{_≡_, sym, ap, _∙_}
 use mir.Syntax.{w64}
 use mir.ValLaws.{toZ-ofZ}
+use Rattle.surface.specs.Calls.{setOutcome}
 use Rattle.answers.specs.Answers.{outcomeAnswer}
 use Rattle.boundary.proofs.CodeLaws.{code-done, code-refused}
 use borrow.Author.Needs.{needs}
@@ -19,15 +20,20 @@ enum-known-r c = search needs
 same-length : tie.Need-same-length
 same-length c = search needs
 
+-- what `set` has left, of the numbers that its bits are
+left : (c : tie.After-set)
+    → let a = c .before .before .before .args in
+    let o = setOutcome (a .w) (a .h) (a .tree .now) (a .numbers .now) (a .level) (a .i) (a .j) (a .number) in
+    (outcomeAnswer (c .set .result) ≡ o .result) × (c .set .last .1 .1 .1 .0 ≡ o .after)
+left c =
+    let s = c .before .before .before in
+    let a = s .args in
+    rw (toZ-ofZ w64 (a .i) (s .fits .i), toZ-ofZ w64 (a .j) (s .fits .j), toZ-ofZ w64 (a .number) (s .fits .number)) at
+    (c .set .ensures)
+
 returns : tie.Need-returns
 returns c =
-    let s = c .before .before .before .before .before .before in
-    let e = rw (
-      toZ-ofZ w64 (s .args .i) (s .fits .i),
-      toZ-ofZ w64 (s .args .j) (s .fits .j),
-      toZ-ofZ w64
-          (s .args .number) (s .fits .number),
-    ) at (c .before .before .before .set .ensures) in
+    let e = left (c .before .before .before) in
     (code-done tt (ap outcomeAnswer (sym (c .enum-told .given .1)) ∙ e .0), e .1)
 
 same-length-2 : tie.Need-same-length-2
@@ -35,13 +41,7 @@ same-length-2 c = search needs
 
 returns-2 : tie.Need-returns-2
 returns-2 c =
-    let s = c .before .before .before .before .before .before .before in
-    let e = rw (
-      toZ-ofZ w64 (s .args .i) (s .fits .i),
-      toZ-ofZ w64 (s .args .j) (s .fits .j),
-      toZ-ofZ w64
-          (s .args .number) (s .fits .number),
-    ) at (c .before .before .before .before .set .ensures) in
+    let e = left (c .before .before .before .before) in
     (code-refused (c .before .r .given .0 .0) (ap outcomeAnswer (sym (c .before .r .given .1)) ∙ e .0), e .1)
 
 pub kiln-set-spec : {M : Type 1} → statement M

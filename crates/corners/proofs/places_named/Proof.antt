@@ -1,10 +1,14 @@
-use Rattle.corners.proofs.CornerLaws.{slots-small}
+use mathlib.Core.Path.{sym, ap₂, _∙_}
+use native.Mathlib.Omega.{arith}
+use Rattle.corners.proofs.CornerLaws.{names-none, names-some}
+use Rattle.corners.specs.Buffers.{placesOf}
 use borrow.Author.Needs.{needs}
 use Rattle.corners.proofs.places_named.Statement.{statement}
 use Rattle.corners.proofs.places_named.Tie as tie
 
 returns : tie.Need-returns
-returns c = search needs
+returns c =
+    let s = c .before .before in (sym (names-none (s .args .file .now) (c .if1 .taken)), omega arith)
 
 shared-slice-read-wide : tie.Need-shared-slice-read-wide
 shared-slice-read-wide c = search needs
@@ -18,17 +22,20 @@ shared-slice-read-wide-2 c = search needs
 wide-requires-2 : tie.Need-wide-requires-2
 wide-requires-2 c κs = search needs
 
+places-of-requires : tie.Need-places-of-requires
+places-of-requires c κs = search needs
+
 returns-2 : tie.Need-returns-2
-returns-2 c = search needs
-
-returns-3 : tie.Need-returns-3
-returns-3 c = search needs
-
-start-requires : tie.Need-start-requires
-start-requires c κs = search needs
-
-returns-4 : tie.Need-returns-4
-returns-4 c = rw (c .start .ensures .0) (slots-small _ _ (c .before .before .if2 .left) (c .before .if3 .left))
+returns-2 c =
+    let second = c .before in
+    let first = second .before .before in
+    let past = first .before .before in
+    let e = c .places-of .ensures in (
+      e .0
+          ∙ ap₂ placesOf (first .wide .ensures) (second .wide2 .ensures)
+          ∙ sym (names-some (past .before .before .args .file .now) (past .if1 .left)),
+      e .1,
+    )
 
 pub places-named-spec : {M : Type 1} → statement M
 places-named-spec =
@@ -39,7 +46,5 @@ places-named-spec =
     wide-requires
     shared-slice-read-wide-2
     wide-requires-2
-    returns-2
-    returns-3
-    start-requires
-    returns-4)
+    places-of-requires
+    returns-2)

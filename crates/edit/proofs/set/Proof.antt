@@ -1,14 +1,15 @@
 -- `set` gives the outcome of document 01: a refusal with nothing written, or the one place set.
 use mathlib.Core.Path.{_≡_, sym, ap, _∙_}
-use Prim.Native.Nat.{_*_, _≤_}
-use native.Mathlib.Nat.{mul-le-mul}
+use Prim.Native.Nat.{_+_, _*_, _≤_, _<_}
 use native.Mathlib.Omega.{arith}
 use borrow.Author.Needs.{needs}
+use lib.ListN.{length}
 use mir.Syntax.{w64}
 use mir.ValLaws.{toZ-ofZ}
 use Rattle.surface.specs.Calls.{indexFits, index, setCause}
 use Rattle.activity.proofs.MinimaLaws.{functions-le}
-use Rattle.edit.proofs.SetLaws.{in-slice, set-place, set-same, Settable, set-none, set-refused, set-done}
+use Rattle.coefficients.proofs.Parts.{level-fits, part}
+use Rattle.edit.proofs.SetLaws.{in-part, set-place, set-same, Settable, set-none, set-refused, set-done}
 use Rattle.edit.proofs.set.Statement.{statement}
 use Rattle.edit.proofs.set.Tie as tie
 
@@ -79,58 +80,86 @@ start-requires c κs =
     let l = fit e .level in
     (fit e .side-W, fit e .side-H, omega arith)
 
--- the row's first place is small
-few : (c : tie.After-start)
-    → (c .before .index2 .result * c .before .before .before .functions .result ≤ 67 * 67)
-    × (c .before .before .index .result ≤ 67)
-few c =
+places-requires : tie.Need-places-requires
+places-requires c κs =
     let e = c .before .before .before .before in
+    (fit e .side-W, fit e .side-H, fit e .level)
+
+add-end : tie.Need-add-end
+add-end c = search needs
+
+mul-set-in-part : tie.Need-mul-set-in-part
+mul-set-in-part c = search needs
+
+sub-set-in-part : tie.Need-sub-set-in-part
+sub-set-in-part c = search needs
+
+part-set-in-part-start : tie.Need-part-set-in-part-start
+part-set-in-part-start c = search needs
+
+-- the level's part is inside the slice
+inside : (c : tie.After-places)
+    → let s = c .before .before .before .before .before .before .before .before .before in
+    c .before .start .result + c .places .result ≤ length (s .args .numbers .now)
+inside c =
+    let e = c .before .before .before .before .before in
+    let a = e .before .before .before .before .args in
+    rw (fit e .size)
+    (level-fits (a .w) (a .h) (a .level) (c .before .start .result) (c .places .result) (fit e .level)
+    (c .before .start .ensures .0) (c .places .ensures .0))
+
+part-set-in-part-end : tie.Need-part-set-in-part-end
+part-set-in-part-end c = inside c
+
+-- the function's place is inside the level's part
+at-place : (c : tie.After-places)
+    → let s = c .before .before .before .before .before .before .before .before .before in
+    c .before .before .index2 .result * c .before .before .before .before .functions .result
+    + c .before .before .before .index .result
+    < length (part (c .before .start .result) (c .places .result) (s .args .numbers .now))
+at-place c =
+    let e = c .before .before .before .before .before in
+    let a = e .before .before .before .before .args in
+    let row = c .before .before .before .before .functions in
+    let first = c .before .before .before .index in
+    let second = c .before .before .index2 in
+    in-part (a .w) (a .h) (a .level) (first .result) (second .result) (row .result) (c .before .start .result)
+    (c .places .result) (a .numbers .now) (row .ensures .0) (c .places .ensures .0) (first .ensures .1)
+    (second .ensures .1) (inside c)
+
+set-in-part-requires : tie.Need-set-in-part-requires
+set-in-part-requires c κs =
+    let d = c .before in
+    let e = d .before .before .before .before .before in
     let a = e .before .before .before .before .args in
     let f = functions-le (a .w) (a .level) (fit e .side-W) (fit e .level) in
-    let g = functions-le (a .h) (a .level) (fit e .side-H) (fit e .level) in
-    let b : c .before .index2 .result ≤ 67 = omega (arith, c .before .index2 .ensures .1) in (
-      mul-le-mul b (c .before .before .before .functions .ensures .1),
-      omega (arith, c .before .before .index .ensures .1),
+    let g = functions-le (a .h) (a .level) (fit e .side-H) (fit e .level) in (
+      d .before .before .before .before .functions .ensures .1,
+      omega (arith, d .before .before .before .index .ensures .1),
+      omega (arith, d .before .before .index2 .ensures .1),
+      at-place d,
     )
-
-mul-at : tie.Need-mul-at
-mul-at c = omega (arith, few c .0)
-
-add-at : tie.Need-add-at
-add-at c = omega (arith, few c .0, few c .1)
-
-add-at-2 : tie.Need-add-at-2
-add-at-2 c = omega (arith, few c .0, few c .1, c .start .ensures .1)
-
-mul-number : tie.Need-mul-number
-mul-number c = omega (arith, few c .0, few c .1, c .start .ensures .1)
-
-slice-set-from-number : tie.Need-slice-set-from-number
-slice-set-from-number c =
-    let e = c .before .before .before .before in
-    let a = e .before .before .before .before .args in
-    in-slice (a .w) (a .h) (a .level) (c .before .before .index .result) (c .before .index2 .result)
-    (c .before .before .before .functions .result) (c .start .result) (a .numbers .now) (fit e .level)
-    (c .before .before .before .functions .ensures .0) (c .start .ensures .0) (c .before .before .index .ensures .1)
-    (c .before .index2 .ensures .1) (fit e .size)
 
 same-length-2 : tie.Need-same-length-2
 same-length-2 c = search needs
 
 returns-2 : tie.Need-returns-2
 returns-2 c =
-    let e = c .before .before .before .before in
+    let called = c .before in
+    let d = called .before .before in
+    let e = d .before .before .before .before .before in
     let s = e .before .before .before .before in
     let a = s .args in
-    let first = c .before .before .index in
-    let second = c .before .index2 in
-    let row = c .before .before .before .functions in
+    let row = d .before .before .before .before .functions in
+    let first = d .before .before .before .index in
+    let second = d .before .before .index2 in
+    let start = d .before .start in
     set-done (a .w) (a .h) (a .tree .now) (a .numbers .now) (a .level) (a .i) (a .j) (a .number) _ (none e)
-    (set-place (a .w) (a .h) (a .level) (first .result) (second .result) (row .result) (c .start .result)
-    (a .numbers .now) (a .i) (a .j) (row .ensures .0) (c .start .ensures .0)
-    (first .ensures .0 ∙ ap index (toZ-ofZ w64 (a .i) (s .fits .i)))
+    (set-place (a .w) (a .h) (a .level) (first .result) (second .result) (row .result) (start .result)
+    (d .places .result) (a .numbers .now) (called .set-in-part .last .0) (a .i) (a .j) (row .ensures .0)
+    (start .ensures .0) (first .ensures .0 ∙ ap index (toZ-ofZ w64 (a .i) (s .fits .i)))
     (second .ensures .0 ∙ ap index (toZ-ofZ w64 (a .j) (s .fits .j)))
-    (toZ-ofZ w64 (a .number) (s .fits .number)))
+    (toZ-ofZ w64 (a .number) (s .fits .number)) (at-place d) (called .set-in-part .ensures))
 
 pub set-spec : {M : Type 1} → statement M
 set-spec =
@@ -143,10 +172,12 @@ set-spec =
     index-requires
     index-requires-2
     start-requires
-    mul-at
-    add-at
-    add-at-2
-    mul-number
-    slice-set-from-number
+    places-requires
+    add-end
+    mul-set-in-part
+    sub-set-in-part
+    part-set-in-part-start
+    part-set-in-part-end
+    set-in-part-requires
     same-length-2
     returns-2)

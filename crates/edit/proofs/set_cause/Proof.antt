@@ -3,70 +3,78 @@ use mathlib.Core.Path.{_≡_, refl, sym, ap, ap₂, _∙_}
 use mathlib.Core.Bool.{Bool, true, false, _&&_}
 use borrow.Author.Needs.{needs}
 use borrow.Author.Tests.{lt-ltb, le-ltb}
-use lib.Dec.{ltb}
+use lib.Dec.{ltb, eqb}
 use lib.IntN.{ℤ, natAbs}
 use mir.Syntax.{w64}
 use mir.ValLaws.{toZ-ofZ}
 use Rattle.surface.specs.Support.{active}
-use Rattle.surface.specs.Table.{levels, limit, tableCause}
+use Rattle.surface.specs.Table.{limit, tableCause}
 use Rattle.surface.specs.Calls.{indexFits, index, setCause}
+use Rattle.activity.specs.Minima.{levelsOf}
+use Rattle.table.proofs.CauseLaws.{map-least}
 use Rattle.edit.proofs.SetLaws.{chain, table-none, set-table, set-by}
 use Rattle.edit.proofs.set_cause.Statement.{statement}
 use Rattle.edit.proofs.set_cause.Tie as tie
 
-table-cause-requires : tie.Need-table-cause-requires
-table-cause-requires c κs = search needs
+check-requires : tie.Need-check-requires
+check-requires c κs = search needs
 
 returns : tie.Need-returns
 returns c =
-    let a = c .before .before .before .args in
+    let a = c .before .before .before .before .args in
     set-table (a .w) (a .h) (a .t .now) (a .cs .now) (a .level) (a .i) (a .j) (a .number)
-    (c .before .table-cause .result) (c .before .table-cause .ensures) (c .if1 .taken)
+    (c .before .check .result) (c .before .check .ensures .0) (c .if1 .taken)
 
 -- past the first five causes
 none : (c : tie.Else1)
-    → let a = c .before .before .before .args in 0 ≡ tableCause (a .w) (a .h) (a .t .now) (a .cs .now)
-none c = sym (c .if1 .left) ∙ c .before .table-cause .ensures
+    → let a = c .before .before .before .before .args in 0 ≡ tableCause (a .w) (a .h) (a .t .now) (a .cs .now)
+none c = sym (c .if1 .left) ∙ c .before .check .ensures .0
 
 returns-2 : tie.Need-returns-2
 returns-2 c =
-    let a = c .before .before .before .before .args in
+    let a = c .before .before .before .before .before .args in
     set-by (a .w) (a .h) (a .t .now) (a .cs .now) (a .level) (a .i) (a .j) (a .number) true _ _ (none (c .before))
     (sym (lt-ltb 3 (a .level) (c .if2 .taken))) refl refl
 
 settable-requires : tie.Need-settable-requires
 settable-requires c κs =
-    let a = c .before .before .before .before .args in
-    let f = table-none (a .w) (a .h) (a .t .now) (a .cs .now) (none (c .before)) in
-    (f .0, f .1, f .2, c .if2 .left, f .3)
+    let a = c .before .before .before .before .before .before .args in
+    let f = table-none (a .w) (a .h) (a .t .now) (a .cs .now) (none (c .before .before)) in
+    (f .0, f .1, f .3, c .before .if2 .left)
 
 past-requires : tie.Need-past-requires
 past-requires c κs = search needs
 
 -- by the tests of the function and of the number
 by : (c : tie.After-settable) (s p : Bool) → c .settable .result ≡ s
-    → let a = c .before .before .before .before .before .args in
+    → let a = c .before .before .before .before .before .before .before .args in
     p ≡ ltb (limit (a .level)) (natAbs (a .number))
     → chain 0 false s p ≡ setCause (a .w) (a .h) (a .t .now) (a .cs .now) (a .level) (a .i) (a .j) (a .number)
 by c s p e q =
-    let level = c .before in
-    let start = level .before .before .before .before in
+    let level = c .before .before in
+    let checked = level .before .before in
+    let start = checked .before .before .before in
     let a = start .args in
+    let map = checked .check .last .1 .1 .1 .1 .0 in
+    let few = table-none (a .w) (a .h) (a .t .now) (a .cs .now) (none (level .before)) in
     let fit : ℤ → ℤ → Bool = λ i j. indexFits (a .w) (a .level) i && indexFits (a .h) (a .level) j
-    && active (a .w) (a .h) (levels (a .t .now)) (a .level) (index i) (index j) in
+    && active (a .w) (a .h) (levelsOf map) (a .level) (index i) (index j) in
     set-by (a .w) (a .h) (a .t .now) (a .cs .now) (a .level) (a .i) (a .j) (a .number) false s p (none (level .before))
     (sym (le-ltb 3 (a .level) (level .if2 .left)))
     (sym e
     ∙ c .settable .ensures
-    ∙ ap₂ fit (toZ-ofZ w64 (a .i) (start .fits .i)) (toZ-ofZ w64 (a .j) (start .fits .j)))
+    ∙ ap₂ fit (toZ-ofZ w64 (a .i) (start .fits .i)) (toZ-ofZ w64 (a .j) (start .fits .j))
+    ∙ ap (λ l. indexFits (a .w) (a .level) (a .i) && indexFits (a .h) (a .level) (a .j) && eqb l (a .level))
+    (map-least (a .w) (a .h) (a .t .now) map (a .level) (index (a .i)) (index (a .j)) (few .1) (few .3)
+    (checked .check .ensures .1 (level .before .if1 .left))))
     q
 
 -- the number's test
 size : (c : tie.After-past)
-    → let a = c .before .before .before .before .before .before .before .args in
+    → let a = c .before .before .before .before .before .before .before .before .before .args in
     c .past .result ≡ ltb (limit (a .level)) (natAbs (a .number))
 size c =
-    let s = c .before .before .before .before .before .before .before in
+    let s = c .before .before .before .before .before .before .before .before .before in
     c .past .ensures
     ∙ ap (λ z. ltb (limit (s .args .level)) (natAbs z)) (toZ-ofZ w64 (s .args .number) (s .fits .number))
 
@@ -85,7 +93,7 @@ pub set-cause-spec : {M : Type 1} → statement M
 set-cause-spec =
     tie.close
     (tie.spec
-    table-cause-requires
+    check-requires
     returns
     returns-2
     settable-requires

@@ -5,10 +5,12 @@ use native.Mathlib.Omega.{arith}
 use borrow.Author.Needs.{needs}
 use borrow.Author.Tests.{le-leb, lt-leb, eq-eqb, ne-eqb}
 use lib.Dec.{leb, eqb}
+use lib.ListN.{length}
 use Rattle.surface.specs.Table.{slots, Acceptable}
+use Rattle.surface.proofs.TableLaws.{sound, sides}
 use Rattle.quadtree.specs.Visit.{boxOf}
 use Rattle.insertion.specs.Inserted.{causeTo16}
-use Rattle.insertion.proofs.InsertLaws.{sides, chain, at-table, at-box, past-table}
+use Rattle.insertion.proofs.InsertLaws.{chain, at-table, at-box, past-table}
 use Rattle.insertion.proofs.insert_cause.Statement.{statement}
 use Rattle.insertion.proofs.insert_cause.Tie as tie
 
@@ -18,7 +20,7 @@ check-requires c κs = search needs
 returns : tie.Need-returns
 returns c =
     let a = c .before .before .before .before .args in (
-      at-table (a .w) (a .h) (a .tree .now) (a .cs .now) (boxOf (a .a)) (a .level) (a .len) (c .before .check .result)
+      at-table (a .w) (a .h) (a .tree .now) (a .cs .now) (boxOf (a .a)) (a .level) (a .numbers-out .now) (c .before .check .result)
           (c .before .check .ensures .0) (c .if1 .taken),
       λ e. absurd (c .if1 .taken e),
     )
@@ -31,14 +33,14 @@ none c = sym (c .before .check .ensures .0) ∙ c .if1 .left
 box-cause-requires : tie.Need-box-cause-requires
 box-cause-requires c κs =
     let a = c .before .before .before .before .args in
-    let s = sides (a .w) (a .h) (a .tree .now) (a .cs .now) (none c) in
+    let s = sides (sound (a .w) (a .h) (a .tree .now) (a .cs .now) (none c)) in
     (s .1, s .3)
 
 returns-2 : tie.Need-returns-2
 returns-2 c =
     let e = c .before .before in
     let a = e .before .before .before .before .args in (
-      at-box (a .w) (a .h) (a .tree .now) (a .cs .now) (boxOf (a .a)) (a .level) (a .len)
+      at-box (a .w) (a .h) (a .tree .now) (a .cs .now) (boxOf (a .a)) (a .level) (a .numbers-out .now)
           (c .before .box-cause .result) (sym (none e)) (c .before .box-cause .ensures) (c .if2 .taken),
       λ z. absurd (c .if2 .taken z),
     )
@@ -46,13 +48,13 @@ returns-2 c =
 -- past cause 7, by the tests of the level and the length
 by : (c : tie.Else2) (low high exact : Bool)
     → let a = c .before .before .before .before .before .before .args in
-    low ≡ leb 1 (a .level) → high ≡ leb (a .level) 3 → exact ≡ eqb (a .len) (slots (a .w) (a .h))
+    low ≡ leb 1 (a .level) → high ≡ leb (a .level) 3 → exact ≡ eqb (length (a .numbers-out .now)) (slots (a .w) (a .h))
     → chain 0 0 low high exact
-    ≡ causeTo16 (a .w) (a .h) (a .tree .now) (a .cs .now) (boxOf (a .a)) (a .level) (a .len)
+    ≡ causeTo16 (a .w) (a .h) (a .tree .now) (a .cs .now) (boxOf (a .a)) (a .level) (a .numbers-out .now)
 by c low high exact =
     let e = c .before .before in
     let a = e .before .before .before .before .args in
-    past-table (a .w) (a .h) (a .tree .now) (a .cs .now) (boxOf (a .a)) (a .level) (a .len) 0 low high exact
+    past-table (a .w) (a .h) (a .tree .now) (a .cs .now) (boxOf (a .a)) (a .level) (a .numbers-out .now) 0 low high exact
     (sym (none e)) (sym (c .if2 .left) ∙ c .before .box-cause .ensures)
 
 returns-3 : tie.Need-returns-3
@@ -70,15 +72,15 @@ start-requires : tie.Need-start-requires
 start-requires c κs =
     let e = c .before .before .before .before in
     let a = e .before .before .before .before .args in
-    let s = sides (a .w) (a .h) (a .tree .now) (a .cs .now) (none e) in
+    let s = sides (sound (a .w) (a .h) (a .tree .now) (a .cs .now) (none e)) in
     (s .1, s .3, omega arith)
 
 -- past cause 8
 exactly : (c : tie.After-start) (exact : Bool)
     → let a = c .before .before .before .before .before .before .before .before .before .args in
-    exact ≡ eqb (a .len) (slots (a .w) (a .h))
+    exact ≡ eqb (length (a .numbers-out .now)) (slots (a .w) (a .h))
     → chain 0 0 true true exact
-    ≡ causeTo16 (a .w) (a .h) (a .tree .now) (a .cs .now) (boxOf (a .a)) (a .level) (a .len)
+    ≡ causeTo16 (a .w) (a .h) (a .tree .now) (a .cs .now) (boxOf (a .a)) (a .level) (a .numbers-out .now)
 exactly c exact =
     let d = c .before in
     by (d .before .before) true true exact (sym (le-leb 1 _ (d .before .if3 .left)))

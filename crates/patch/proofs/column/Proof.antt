@@ -12,42 +12,6 @@ use Rattle.patch.proofs.Subdivision.{children-of, small}
 use Rattle.patch.proofs.column.Statement.{statement}
 use Rattle.patch.proofs.column.Tie as tie
 
-mul-children : tie.Need-mul-children
-mul-children c = search needs
-
-index-1-children : tie.Need-index-1-children
-index-1-children c = search needs
-
-index-2-children : tie.Need-index-2-children
-index-2-children c = search needs
-
-mul-children-2 : tie.Need-mul-children-2
-mul-children-2 c = search needs
-
-index-1-children-2 : tie.Need-index-1-children-2
-index-1-children-2 c = search needs
-
-index-2-children-2 : tie.Need-index-2-children-2
-index-2-children-2 c = search needs
-
-mul-children-3 : tie.Need-mul-children-3
-mul-children-3 c = search needs
-
-index-1-children-3 : tie.Need-index-1-children-3
-index-1-children-3 c = search needs
-
-index-2-children-3 : tie.Need-index-2-children-3
-index-2-children-3 c = search needs
-
-mul-children-4 : tie.Need-mul-children-4
-mul-children-4 c = search needs
-
-index-1-children-4 : tie.Need-index-1-children-4
-index-1-children-4 c = search needs
-
-index-2-children-4 : tie.Need-index-2-children-4
-index-2-children-4 c = search needs
-
 children-requires : tie.Need-children-requires
 children-requires c κs =
     let s = c .before .before .before .before in
@@ -63,21 +27,22 @@ returns c =
     λ k hk. kept (entry (s .args .t1) k (s .args .l)) (s .pre .1 k (s .args .l) hk (s .pre .0)) (lit< tt) in
     children-of (s .args .g) (c .children .ensures) (at 0 (lit< tt)) (at 1 (lit< tt)) (at 2 (lit< tt)) (at 3 (lit< tt))
 
+-- in the order of the code: each read is in bounds, which search finds
 pub column-spec : {M : Type 1} → statement M
 column-spec =
     tie.close
     (tie.spec
-    mul-children
-    index-1-children
-    index-2-children
-    mul-children-2
-    index-1-children-2
-    index-2-children-2
-    mul-children-3
-    index-1-children-3
-    index-2-children-3
-    mul-children-4
-    index-1-children-4
-    index-2-children-4
+    (λ c. search needs)
+    (λ c. search needs)
+    (λ c. search needs)
+    (λ c. search needs)
+    (λ c. search needs)
+    (λ c. search needs)
+    (λ c. search needs)
+    (λ c. search needs)
+    (λ c. search needs)
+    (λ c. search needs)
+    (λ c. search needs)
+    (λ c. search needs)
     children-requires
     returns)

@@ -11,7 +11,7 @@ use mir.Val.{SFits, toZ, ofZ}
 use mir.ValLaws.{toZ-ofZ}
 use borrow.Author.Needs.{needs, sfits-of}
 use Rattle.patch.specs.declared.Splines.{Splines}
-use Rattle.patch.specs.Patches.{entry, Bounded}
+use Rattle.patch.specs.Patches.{Bounded}
 use Rattle.patch.specs.Steps.{splinesOf, weighed, Weights, Row}
 use Rattle.patch.proofs.Four.{four}
 use Rattle.patch.proofs.Evaluation.{weights, rowsOf, rows-size, evaluates}

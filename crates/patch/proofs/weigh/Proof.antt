@@ -3,13 +3,13 @@ use Prim.Native.Nat.{ℕ, _*_, _≤_, _<_}
 use native.Mathlib.Nat.{le-refl}
 use native.Mathlib.Omega.{arith}
 use lib.Dec.{lit<}
-use lib.IntN.{ℤ, pos, natAbs, _+ℤ_, _*ℤ_}
+use lib.IntN.{ℤ, pos, natAbs, _*ℤ_}
 use lib.ListN.{getD}
 use mir.Syntax.{w64}
 use mir.Val.{SFits, toZ, ofZ}
 use borrow.Author.Needs.{needs}
 use Rattle.patch.specs.Steps.{weighed}
-use Rattle.patch.proofs.Size.{Holds, holds, plus, times, add-fits, mul-fits, add-holds, mul-holds}
+use Rattle.patch.proofs.Size.{Holds, holds, times, add-fits, mul-fits, add-holds, mul-holds}
 use Rattle.patch.proofs.weigh.Statement.{statement}
 use Rattle.patch.proofs.weigh.Tie as tie
 

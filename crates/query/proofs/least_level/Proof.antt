@@ -1,11 +1,12 @@
 -- Each way out of `least_level` gives the outcome of document 01.
 use mathlib.Core.Path.{_≡_, sym, _∙_}
+use native.Mathlib.Omega.{arith}
 use borrow.Author.Needs.{needs}
 use Rattle.surface.specs.Sheet.{Box}
 use Rattle.surface.specs.Table.{regionCause}
 use Rattle.surface.specs.Calls.{boxCause}
 use Rattle.table.proofs.CauseLaws.{region-none, box-none}
-use Rattle.query.proofs.QueryLaws.{least-region, least-box, least-found}
+use Rattle.query.proofs.QueryLaws.{least-region, least-box, least-found, least-byte}
 use Rattle.query.proofs.least_level.Statement.{statement}
 use Rattle.query.proofs.least_level.Tie as tie
 
@@ -54,13 +55,22 @@ least-under-requires c κs =
     let sides = region-none (a .w) (a .h) (a .tree .now) (none d) in
     (sides .1, sides .2, sides .3, box-none (a .w) (a .h) (boxAt s) (inside c))
 
+cast-t13 : tie.Need-cast-t13
+cast-t13 c =
+    let s = c .before .before .before .before .before .before .before in
+    let a = s .args in
+    let u = c .before .least-under in
+    let low = least-byte (a .w) (a .h) (a .tree .now) (boxAt s) (u .result .least) (u .result .visited) (u .ensures) in
+    omega (arith, low)
+
 returns-3 : tie.Need-returns-3
 returns-3 c =
-    let d = c .before .before .before in
+    let d = c .before .before .before .before in
     let s = d .before .before .before in
     let a = s .args in
-    least-found (a .w) (a .h) (a .tree .now) (boxAt s) (c .least-under .result .least)
-    (c .least-under .result .visited) (none d) (inside (c .before)) (c .least-under .ensures)
+    let u = c .before .least-under in
+    least-found (a .w) (a .h) (a .tree .now) (boxAt s) (u .result .least) (u .result .visited) (none d)
+    (inside (c .before .before)) (u .ensures)
 
 pub least-level-spec : {M : Type 1} → statement M
 least-level-spec =
@@ -71,4 +81,5 @@ least-level-spec =
     box-cause-requires
     returns-2
     least-under-requires
+    cast-t13
     returns-3)

@@ -4,7 +4,7 @@ use mir.Syntax.{w64}
 use mir.Val.{ofZ, toZ}
 use mir.ValLaws.{toZ-ofZ}
 use borrow.Author.Needs.{needs, sfits-of}
-use Rattle.surface.specs.Calls.{gives, wholeWatts, costOf}
+use Rattle.surface.specs.Calls.{wholeWatts, costOf}
 use Rattle.answers.specs.Answers.{exactAnswer}
 use Rattle.readings.proofs.ReadingLaws.{tariff-refused, cost-given, cost-refused}
 use Rattle.readings.proofs.cost.Statement.{statement}

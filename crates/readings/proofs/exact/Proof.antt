@@ -1,13 +1,14 @@
 -- Each way out of `exact` gives the outcome of document 01.
 use mathlib.Core.Path.{_≡_, sym, _∙_}
-use Prim.Native.Nat.{_≤_}
+use Prim.Native.Nat.{_≤_, _<_}
 use native.Mathlib.Omega.{arith}
 use borrow.Author.Needs.{needs, sfits-of}
 use mir.Syntax.{w64}
 use mir.Val.{ofZ, toZ}
 use mir.ValLaws.{toZ-ofZ}
 use Rattle.surface.specs.Table.{tableCause}
-use Rattle.readings.proofs.ReadingLaws.{exact-refused, off-u, off-v, exact-given, small-sides}
+use Rattle.surface.proofs.TableLaws.{sound, sides}
+use Rattle.readings.proofs.ReadingLaws.{exact-refused, off-u, off-v, exact-given}
 use Rattle.readings.proofs.exact.Statement.{statement}
 use Rattle.readings.proofs.exact.Tie as tie
 
@@ -25,13 +26,14 @@ none : (c : tie.Else1)
     → let a = c .before .before .before .before .args in 0 ≡ tableCause (a .w) (a .h) (a .tree .now) (a .cs .now)
 none c = sym (c .if1 .left) ∙ c .before .check .ensures .0
 
-sides : (c : tie.Else1) → let a = c .before .before .before .before .args in (a .w ≤ 8) × (a .h ≤ 8)
-sides c =
+within : (c : tie.Else1)
+    → let a = c .before .before .before .before .args in (0 < a .w) × (a .w ≤ 8) × (0 < a .h) × (a .h ≤ 8)
+within c =
     let a = c .before .before .before .before .args in
-    small-sides (a .w) (a .h) (a .tree .now) (a .cs .now) (a .u) (a .v) (none c)
+    sides (sound (a .w) (a .h) (a .tree .now) (a .cs .now) (sym (none c)))
 
 mul-if2 : tie.Need-mul-if2
-mul-if2 c = omega (arith, sides c .0)
+mul-if2 c = omega (arith, within c)
 
 returns-2 : tie.Need-returns-2
 returns-2 c =
@@ -39,7 +41,7 @@ returns-2 c =
     off-u (a .w) (a .h) (a .tree .now) (a .cs .now) (a .u) (a .v) (none (c .before)) (c .if2 .taken)
 
 mul-if3 : tie.Need-mul-if3
-mul-if3 c = omega (arith, sides (c .before) .1)
+mul-if3 c = omega (arith, within (c .before))
 
 returns-3 : tie.Need-returns-3
 returns-3 c =

@@ -5,7 +5,7 @@ use native.Mathlib.Nat.{mul-comm, suc-mul, mul-le-mul-right}
 use native.Mathlib.Omega.{arith}
 use borrow.Author.Needs.{needs}
 use lib.ListN.{length, take, drop}
-use Rattle.finite.specs.Range.{tableFrom, grid}
+use Rattle.finite.specs.Range.{tableFrom}
 use Rattle.activity.specs.Mark.{rowMarks, activeMark}
 use Rattle.activity.proofs.MinimaLaws.{functions-le}
 use Rattle.activity.proofs.MarkLaws.{rowsWritten, rows-none, rows-next, rows-all, row-marks}
@@ -111,12 +111,8 @@ returns c =
     let start = c .before .before .before .before in
     let args = start .args in
     let mark = activeMark (args .w) (args .h) (args .level) (args .map .now) in
-    let all : loop .b ≡ args .m = omega arith in
-    let size : loop .b * args .n ≡ length (args .out .now) =
-    ap (λ b. b * args .n) all ∙ mul-comm (args .m) (args .n) ∙ sym (start .pre .6) in
-    loop .inv .2
-    ∙ rows-all (args .n) (loop .b) mark (args .out .now) size
-    ∙ ap₂ (λ n m. grid n m mark) (start .pre .4) (all ∙ start .pre .5)
+    rows-all (loop .b) mark (args .out .now) (loop .inv .2) (loop .inv .0) (c .loop-test .left) (start .pre .4)
+    (start .pre .5) (start .pre .6 ∙ ap₂ _*_ (start .pre .4) (start .pre .5))
 
 pub mark-level-spec : {M : Type 1} → statement M
 mark-level-spec =

@@ -1,12 +1,11 @@
 -- `clear_level` meets its contract: before each turn the rows below b are cleared.
-use mathlib.Core.Path.{_≡_, sym, ap₂, _∙_, subst}
+use mathlib.Core.Path.{_≡_, sym, _∙_}
 use Prim.Native.Nat.{_+_, _-_, _*_, _≤_, _<_}
-use native.Mathlib.Nat.{mul-comm, le-add-right}
+use native.Mathlib.Nat.{le-add-right}
 use native.Mathlib.Omega.{arith}
 use borrow.Author.Needs.{needs}
 use lib.ListN.{length}
-use Rattle.finite.specs.Range.{tableFrom, grid}
-use Rattle.surface.specs.Sheet.{functions}
+use Rattle.finite.specs.Range.{tableFrom}
 use Rattle.surface.specs.Table.{places}
 use Rattle.activity.proofs.MarkLaws.{rowsWritten, rows-none, rows-next, rows-all}
 use Rattle.coefficients.proofs.Parts.{row-small, row-fits, part-length}
@@ -47,22 +46,19 @@ inside : (c : tie.In-loop Inv-loop μ-loop)
     → let n = c .before .before .before .before .functions .result in
     c .before .loop .b * n + n ≤ length (c .before .loop .part)
 inside c =
-    let at-loop = c .before in
-    let rows = at-loop .before .before in
+    let rows = c .before .before .before in
     let columns = rows .before in
     let a = columns .before .args in
-    let b = at-loop .loop .b in
-    rw (at-loop .loop .inv .1)
-    (row-fits (a .w) (a .h) (a .level) (columns .functions .result) b (columns .functions .ensures .0)
-    (subst (λ k. b < k) (rows .functions2 .ensures .0) (c .loop-test .taken)))
+    row-fits (a .w) (a .h) (a .level) (c .before .loop .b) (columns .functions .result) (rows .functions2 .result)
+    (c .before .loop .part) (columns .functions .ensures .0) (rows .functions2 .ensures .0) (c .loop-test .taken)
+    (c .before .loop .inv .1)
 
 small : (c : tie.In-loop Inv-loop μ-loop)
     → (c .before .loop .b * c .before .before .before .before .functions .result ≤ 4489) × (c .before .loop .b < 67)
 small c =
     let rows = c .before .before .before in
-    let b = c .before .loop .b in
-    let few : b < 67 = omega (arith, c .loop-test .taken, rows .functions2 .ensures .1) in
-    (row-small b (rows .before .functions .result) few (rows .before .functions .ensures .1), few)
+    row-small (c .before .loop .b) (rows .functions2 .result) (rows .before .functions .result) (c .loop-test .taken)
+    (rows .functions2 .ensures .1) (rows .before .functions .ensures .1)
 
 mul-from : tie.Need-mul-from Inv-loop μ-loop
 mul-from c = omega (arith, small (c .before .before) .0)
@@ -138,19 +134,9 @@ returns c =
     let columns = rows .before in
     let s = columns .before in
     let a = s .args in
-    let n = columns .functions .result in
-    let cleared = levelClearedAt (a .w) (a .h) (a .level) (a .map .now) (a .part .now) in
-    let all : loop .b ≡ functions (a .h) (a .level) =
-    let last : loop .b ≡ rows .functions2 .result = omega (arith, c .loop-test .left, loop .inv .0) in
-    last ∙ rows .functions2 .ensures .0 in
-    let cols = columns .functions .ensures .0 in
-    let size : loop .b * n ≡ length (a .part .now) =
-    ap₂ (λ i j. i * j) all cols
-    ∙ mul-comm (functions (a .h) (a .level)) (functions (a .w) (a .level))
-    ∙ sym (s .pre .4) in
-    loop .inv .2
-    ∙ rows-all n (loop .b) cleared (a .part .now) size
-    ∙ ap₂ (λ i j. grid i j cleared) cols all
+    rows-all (loop .b) (levelClearedAt (a .w) (a .h) (a .level) (a .map .now) (a .part .now)) (a .part .now)
+    (loop .inv .2) (loop .inv .0) (c .loop-test .left) (columns .functions .ensures .0) (rows .functions2 .ensures .0)
+    (s .pre .4)
 
 pub clear-level-spec : {M : Type 1} → statement M
 clear-level-spec =

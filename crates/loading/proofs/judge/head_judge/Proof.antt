@@ -3,7 +3,7 @@ use mathlib.Core.Path.{subst}
 use native.Mathlib.Omega.{arith}
 use borrow.Author.Needs.{needs}
 use Rattle.loading.specs.Judged.{Sides, sidesJudged}
-use Rattle.loading.proofs.JudgeLaws.{head-faulty, head-of}
+use Rattle.loading.proofs.JudgeLaws.{head-faulty}
 use Rattle.loading.proofs.judge.head_judge.Statement.{statement}
 use Rattle.loading.proofs.judge.head_judge.Tie as tie
 
@@ -45,15 +45,10 @@ tree-judge-requires c κs =
     let second = c .before in
     let first = second .before .before in
     let s = sides (first .before .before) in
-    (s .size, rw (first .wide .ensures .0) (s .small-W), rw (second .wide2 .ensures .0) (s .small-H))
+    (s, first .wide .ensures .0, second .wide2 .ensures .0)
 
 returns-2 : tie.Need-returns-2
-returns-2 c =
-    let second = c .before .before in
-    let first = second .before .before in
-    let b = first .before .before in
-    head-of (b .before .before .before .before .args .file .now) _ (c .tree-judge .result) (first .wide .result)
-    (second .wide2 .result) (sides b) (first .wide .ensures .0) (second .wide2 .ensures .0) (c .tree-judge .ensures)
+returns-2 c = c .tree-judge .ensures
 
 pub head-judge-spec : {M : Type 1} → statement M
 head-judge-spec =

@@ -3,6 +3,7 @@ use mathlib.Core.Path.{sym, _∙_}
 use Prim.Native.Nat.{_≤_}
 use borrow.Author.Needs.{needs}
 use lib.ListN.{length}
+use Rattle.surface.proofs.TableLaws.{good-side}
 use Rattle.loading.proofs.JudgeLaws.{tree-faulty, tree-size, tree-good, tree-bad}
 use Rattle.loading.proofs.judge.tree_judge.Statement.{statement}
 use Rattle.loading.proofs.judge.tree_judge.Tie as tie
@@ -20,7 +21,7 @@ returns : tie.Need-returns
 returns c =
     let f = c .before .before in
     let a = f .before .before .args in
-    tree-faulty (a .file .now) (a .w) (a .h) (f .field-at .result) (f .field-at .ensures .0) (a .map .now)
+    tree-faulty (a .file .now) (f .before .before .pre .0) (f .field-at .result) (f .field-at .ensures .0) (a .map .now)
     (c .enum-told .given .0 .0) (c .enum-told .given .1)
 
 -- the field is whole
@@ -29,7 +30,7 @@ size : (c : tie.After-f)
 size c =
     let f = c .before .before in
     let a = f .before .before .args in
-    tree-size (a .file .now) (a .w) (a .h) (f .field-at .result) (f .field-at .ensures .0) (c .f .given .0 .0)
+    tree-size (a .file .now) (f .before .before .pre .0) (f .field-at .result) (f .field-at .ensures .0) (c .f .given .0 .0)
     (c .f .given .1) (f .field-at .ensures .1)
 
 sub-formed-map : tie.Need-sub-formed-map
@@ -42,16 +43,21 @@ part-formed-map-end : tie.Need-part-formed-map-end
 part-formed-map-end c = size (c .before) .1
 
 formed-map-requires : tie.Need-formed-map-requires
-formed-map-requires c κs = search needs
+formed-map-requires c κs =
+    let s = c .before .before .before .before .before .before .before in
+    let w = good-side _ (s .pre .0 .good-W) in
+    let h = good-side _ (s .pre .0 .good-H) in
+    (rw (s .pre .1) (w .1), rw (s .pre .2) (h .1))
 
 returns-2 : tie.Need-returns-2
 returns-2 c =
     let m = c .before in
     let k = m .before .before .before .before in
     let f = k .before .before in
-    let a = f .before .before .args in
-    tree-good (a .file .now) (a .w) (a .h) (f .field-at .result) (f .field-at .ensures .0) (k .f .given .0 .0)
-    (k .f .given .1) (f .field-at .ensures .1) _ (sym (m .formed-map .ensures .0) ∙ c .if1 .taken)
+    let s = f .before .before in
+    let a = s .args in
+    tree-good (a .file .now) (s .pre .0) (f .field-at .result) (f .field-at .ensures .0) (k .f .given .0 .0)
+    (k .f .given .1) (f .field-at .ensures .1) (a .w) (a .h) (s .pre .1) (s .pre .2) _ (sym (m .formed-map .ensures .0) ∙ c .if1 .taken)
     (m .formed-map .ensures .1 (c .if1 .taken))
 
 returns-3 : tie.Need-returns-3
@@ -59,9 +65,10 @@ returns-3 c =
     let m = c .before in
     let k = m .before .before .before .before in
     let f = k .before .before in
-    let a = f .before .before .args in
-    tree-bad (a .file .now) (a .w) (a .h) (f .field-at .result) (f .field-at .ensures .0) (k .f .given .0 .0)
-    (k .f .given .1) (f .field-at .ensures .1) (sym (m .formed-map .ensures .0) ∙ c .if1 .left)
+    let s = f .before .before in
+    let a = s .args in
+    tree-bad (a .file .now) (s .pre .0) (f .field-at .result) (f .field-at .ensures .0) (k .f .given .0 .0)
+    (k .f .given .1) (f .field-at .ensures .1) (a .w) (a .h) (s .pre .1) (s .pre .2) (sym (m .formed-map .ensures .0) ∙ c .if1 .left)
 
 pub tree-judge-spec : {M : Type 1} → statement M
 tree-judge-spec =

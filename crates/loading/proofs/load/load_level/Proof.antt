@@ -1,12 +1,11 @@
 -- Before each turn the rows below b are loaded.
-use mathlib.Core.Path.{_≡_, sym, ap, ap₂, _∙_, subst}
+use mathlib.Core.Path.{_≡_, sym, ap, _∙_, subst}
 use Prim.Native.Nat.{_+_, _-_, _*_, _≤_, _<_}
-use native.Mathlib.Nat.{mul-comm, le-add-right}
+use native.Mathlib.Nat.{le-add-right}
 use native.Mathlib.Omega.{arith}
 use borrow.Author.Needs.{needs}
 use lib.ListN.{length}
-use Rattle.finite.specs.Range.{count, tableFrom, grid}
-use Rattle.surface.specs.Sheet.{functions}
+use Rattle.finite.specs.Range.{count, tableFrom}
 use Rattle.surface.specs.Table.{places}
 use Rattle.surface.specs.TableFile.{activeInRow, loaded}
 use Rattle.coefficients.proofs.Parts.{part, row-small, row-fits, part-length}
@@ -57,17 +56,16 @@ inside c =
     let rows = c .before .before .before in
     let columns = rows .before in
     let a = columns .before .before .args in
-    rw (c .before .loop .inv .1)
-    (row-fits (a .w) (a .h) (a .level) (columns .functions .result) (c .before .loop .b)
-    (columns .functions .ensures .0)
-    (subst (λ k. c .before .loop .b < k) (rows .functions2 .ensures .0) (c .loop-test .taken)))
+    row-fits (a .w) (a .h) (a .level) (c .before .loop .b) (columns .functions .result) (rows .functions2 .result)
+    (c .before .loop .part) (columns .functions .ensures .0) (rows .functions2 .ensures .0) (c .loop-test .taken)
+    (c .before .loop .inv .1)
 
 small : (c : tie.In-loop Inv-loop μ-loop)
     → (c .before .loop .b * c .before .before .before .before .functions .result ≤ 4489) × (c .before .loop .b < 67)
 small c =
     let rows = c .before .before .before in
-    let few : c .before .loop .b < 67 = omega (arith, c .loop-test .taken, rows .functions2 .ensures .1) in
-    (row-small (c .before .loop .b) (rows .before .functions .result) few (rows .before .functions .ensures .1), few)
+    row-small (c .before .loop .b) (rows .functions2 .result) (rows .before .functions .result) (c .loop-test .taken)
+    (rows .functions2 .ensures .1) (rows .before .functions .ensures .1)
 
 mul-from : tie.Need-mul-from Inv-loop μ-loop
 mul-from c = omega (arith, small (c .before .before) .0)
@@ -174,14 +172,9 @@ returns c =
     let columns = rows .before in
     let s = columns .before .before in
     let a = s .args in
-    let n = columns .functions .result in
-    let f = loaded (a .w) (a .h) (levelsOf (a .map .now)) (a .level) (a .body .now) in
-    let all : loop .b ≡ rows .functions2 .result = omega arith in
-    let sides = ap₂ _*_ (all ∙ rows .functions2 .ensures .0) (columns .functions .ensures .0) in
-    loop .inv .3
-    ∙ rows-all n (loop .b) f (a .part .now)
-    (sides ∙ mul-comm (functions (a .h) (a .level)) (functions (a .w) (a .level)) ∙ sym (s .pre .4))
-    ∙ ap₂ (λ n m. grid n m f) (columns .functions .ensures .0) (all ∙ rows .functions2 .ensures .0)
+    rows-all (loop .b) (loaded (a .w) (a .h) (levelsOf (a .map .now)) (a .level) (a .body .now)) (a .part .now)
+    (loop .inv .3) (loop .inv .0) (c .loop-test .left) (columns .functions .ensures .0) (rows .functions2 .ensures .0)
+    (s .pre .4)
 
 pub load-level-spec : {M : Type 1} → statement M
 load-level-spec =

@@ -9,7 +9,7 @@ use lib.ListN.{length}
 use Rattle.surface.specs.Table.{slots}
 use Rattle.coefficients.proofs.Parts.{level-fits, part-length}
 use Rattle.loading.specs.Fields.{bodyAt}
-use Rattle.loading.specs.Judged.{treeIn, holds}
+use Rattle.loading.specs.Judged.{treeIn, levelsHold}
 use Rattle.loading.proofs.CountLaws.{count-tree}
 use Rattle.loading.proofs.FileLaws.{Loading, loading-none, loading-head, loading-inside, loading-count}
 use Rattle.loading.proofs.FileLaws.{loading-next, loading-done, loaded-tree}
@@ -20,7 +20,7 @@ abbrev Inv-loop : tie.InvT-loop
 Inv-loop file from map w h numbers₀ at₀ level₀ numbers at level =
     (level ≤ 4)
     × (length numbers ≡ slots w h)
-    × ((found : List ℤ) → holds file from w h found → Loading file from w h level at numbers₀ numbers found)
+    × ((found : List ℤ) → levelsHold file from w h found → Loading file from w h level at numbers₀ numbers found)
 
 abbrev μ-loop : tie.MeasureT-loop
 μ-loop file from map w h numbers₀ at₀ level₀ numbers at level = 4 - level

@@ -9,54 +9,6 @@ use Rattle.point.proofs.PointLaws.{at-four, chosen-read}
 use Rattle.point.proofs.step.choose_row.Statement.{statement}
 use Rattle.point.proofs.step.choose_row.Tie as tie
 
-array-read-choose : tie.Need-array-read-choose
-array-read-choose c = search needs
-
-array-copy-out-choose : tie.Need-array-copy-out-choose
-array-copy-out-choose c = search needs
-
-array-copy-out-choose-2 : tie.Need-array-copy-out-choose-2
-array-copy-out-choose-2 c = search needs
-
-choose-requires : tie.Need-choose-requires
-choose-requires c κs = search needs
-
-array-read-choose-2 : tie.Need-array-read-choose-2
-array-read-choose-2 c = search needs
-
-array-copy-out-choose-3 : tie.Need-array-copy-out-choose-3
-array-copy-out-choose-3 c = search needs
-
-array-copy-out-choose-4 : tie.Need-array-copy-out-choose-4
-array-copy-out-choose-4 c = search needs
-
-choose-requires-2 : tie.Need-choose-requires-2
-choose-requires-2 c κs = search needs
-
-array-read-choose-3 : tie.Need-array-read-choose-3
-array-read-choose-3 c = search needs
-
-array-copy-out-choose-5 : tie.Need-array-copy-out-choose-5
-array-copy-out-choose-5 c = search needs
-
-array-copy-out-choose-6 : tie.Need-array-copy-out-choose-6
-array-copy-out-choose-6 c = search needs
-
-choose-requires-3 : tie.Need-choose-requires-3
-choose-requires-3 c κs = search needs
-
-array-read-choose-4 : tie.Need-array-read-choose-4
-array-read-choose-4 c = search needs
-
-array-copy-out-choose-7 : tie.Need-array-copy-out-choose-7
-array-copy-out-choose-7 c = search needs
-
-array-copy-out-choose-8 : tie.Need-array-copy-out-choose-8
-array-copy-out-choose-8 c = search needs
-
-choose-requires-4 : tie.Need-choose-requires-4
-choose-requires-4 c κs = search needs
-
 returns : tie.Need-returns
 returns c =
     let one = c .before .before .before in
@@ -79,24 +31,25 @@ returns c =
     (sfits-of (c .before .before .choose-arg7 .given)) (sfits-of (c .before .choose-arg8 .given))
     (c .choose4 .ensures))
 
+-- in the order of the code: what search closes is that each read is in bounds and each call is allowed
 pub choose-row-spec : {M : Type 1} → statement M
 choose-row-spec =
     tie.close
     (tie.spec
-    array-read-choose
-    array-copy-out-choose
-    array-copy-out-choose-2
-    choose-requires
-    array-read-choose-2
-    array-copy-out-choose-3
-    array-copy-out-choose-4
-    choose-requires-2
-    array-read-choose-3
-    array-copy-out-choose-5
-    array-copy-out-choose-6
-    choose-requires-3
-    array-read-choose-4
-    array-copy-out-choose-7
-    array-copy-out-choose-8
-    choose-requires-4
+    (λ c. search needs)
+    (λ c. search needs)
+    (λ c. search needs)
+    (λ c κs. search needs)
+    (λ c. search needs)
+    (λ c. search needs)
+    (λ c. search needs)
+    (λ c κs. search needs)
+    (λ c. search needs)
+    (λ c. search needs)
+    (λ c. search needs)
+    (λ c κs. search needs)
+    (λ c. search needs)
+    (λ c. search needs)
+    (λ c. search needs)
+    (λ c κs. search needs)
     returns)

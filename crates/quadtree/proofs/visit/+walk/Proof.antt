@@ -6,7 +6,7 @@ use lib.ListN.{length}
 use borrow.Author.Needs.{needs}
 use borrow.Fn.Kinds.{In}
 use borrow.Fn.PlainCycle.{Measures, is, falls, and}
-use Rattle.quadtree.specs.Visit.{boxOf}
+use Rattle.quadtree.specs.Visit.{boxAt}
 use Rattle.quadtree.proofs.VisitWalk.{readable-inside, half-less, readable-first, readable-second}
 use Rattle.quadtree.proofs.VisitWalk.{readable-third, readable-fourth, node-as, walk-leaf, walk-split}
 use Rattle.quadtree.proofs.visit.walk.Reads as walk
@@ -18,15 +18,15 @@ use Rattle.quadtree.proofs.visit.node.Reads as node
 use Rattle.quadtree.proofs.visit.+walk.{statement}
 use Rattle.quadtree.proofs.visit.+walk.Tie.{close}
 
-abbrev μ-walk : Measures 1 walk-kinds.ps ℕ
+abbrev μ-walk : Measures 2 walk-kinds.ps ℕ
 μ-walk κs a = a .1 .1 .1 .1 .0
 
 -- what `walk` is given at the measure m, and what a call of it asks below m
-abbrev walk-at : ℕ → In 1 walk-kinds.ps
-walk-at m = and 1 walk-kinds.ps (is 1 walk-kinds.ps μ-walk m) walk.Pre
+abbrev walk-at : ℕ → In 2 walk-kinds.ps
+walk-at m = and 2 walk-kinds.ps (is 2 walk-kinds.ps μ-walk m) walk.Pre
 
-abbrev walk-below : ℕ → In 1 walk-kinds.ps
-walk-below m = and 1 walk-kinds.ps (falls 1 walk-kinds.ps _<_ μ-walk m) walk.Pre
+abbrev walk-below : ℕ → In 2 walk-kinds.ps
+walk-below m = and 2 walk-kinds.ps (falls 2 walk-kinds.ps _<_ μ-walk m) walk.Pre
 
 abbrev claims : ℕ → lts.Claims
 claims m = (
@@ -56,6 +56,9 @@ shared-slice-read-b m c = inside m (c .before .before .before)
 add-node : (m : ℕ) → lts.Need-add-node (claims m) (walk-at m) walk.Post
 add-node m c = omega (arith, inside m (c .before .before .before .before))
 
+cast-node : (m : ℕ) → lts.Need-cast-node (claims m) (walk-at m) walk.Post
+cast-node m c = search needs
+
 node-requires : (m : ℕ) → lts.Need-node-requires (claims m) (walk-at m) walk.Post
 node-requires m c κs = search needs
 
@@ -63,7 +66,7 @@ returns : (m : ℕ) → lts.Need-returns (claims m) (walk-at m) walk.Post
 returns m c =
     let s = c .before .before .before .before .before in
     let a = s .args in
-    walk-leaf (boxOf (a .a)) (a .t .now) (a .x) (a .y) (a .side) (a .at) (c .node .result) (inside m s)
+    walk-leaf (boxAt (a .corners .now)) (a .t .now) (a .x) (a .y) (a .side) (a .at) (c .node .result) (inside m s)
     (c .before .if1 .taken) (node-as (c .before .before .before .meets .ensures) refl (c .node .ensures))
 
 -- ---- the walks of the children
@@ -166,6 +169,7 @@ pub +walk-spec : {M : Type 1} → statement M
     (meets-requires m)
     (shared-slice-read-b m)
     (add-node m)
+    (cast-node m)
     (node-requires m)
     (returns m)
     (add-walk m)

@@ -1,22 +1,48 @@
--- The walk of the whole tree finds the least level under the box.
+-- A tree of one leaf has the leaf's level under each box; the walk of another tree finds the least level.
+use mathlib.Core.Path.{refl, sym}
 use native.Mathlib.Omega.{arith}
+use borrow.Author.Needs.{needs}
+use Rattle.quadtree.specs.Subtree.{Readable}
 use Rattle.quadtree.specs.Visit.{boxOf}
 use Rattle.quadtree.proofs.SubtreeLaws.{tree-subtree}
-use Rattle.quadtree.proofs.VisitWalk.{walk-whole}
+use Rattle.quadtree.proofs.VisitLaws.{root-meets}
+use Rattle.quadtree.proofs.VisitWalk.{readable-inside, node-as, walk-leaf, walk-whole}
 use Rattle.quadtree.proofs.visit.least_under.Statement.{statement}
 use Rattle.quadtree.proofs.visit.least_under.Tie as tie
 
-walk-requires : tie.Need-walk-requires
-walk-requires c κs =
-    let s = c .before in
-    (omega arith, omega arith, tree-subtree (s .args .w) (s .args .h) (s .args .t .now) (s .pre .2) .0)
+readable : (s : tie.Start) → Readable 32 (s .args .t .now) 0
+readable s = tree-subtree (s .args .w) (s .args .h) (s .args .t .now) (s .pre .2) .0
+
+shared-slice-read-b : tie.Need-shared-slice-read-b
+shared-slice-read-b c = readable-inside (readable (c .before .before))
+
+cast-node : tie.Need-cast-node
+cast-node c = search needs
+
+node-requires : tie.Need-node-requires
+node-requires c κs = search needs
 
 returns : tie.Need-returns
 returns c =
-    let a = c .before .before .args in
-    let p = c .before .before .pre in
+    let s = c .before .before .before .before in
+    let a = s .args in
+    let p = s .pre in
+    let b = boxOf (a .a) in
+    walk-whole (a .w) (a .h) b (a .t .now) (c .node .result) (p .0) (p .1) (p .2) (p .3)
+    (walk-leaf b (a .t .now) 0 0 32 0 (c .node .result) (readable-inside (readable s)) (c .before .if1 .taken)
+    (node-as (sym (root-meets (a .w) (a .h) b (p .0) (p .1) (p .3))) refl (c .node .ensures)))
+
+walk-requires : tie.Need-walk-requires
+walk-requires c κs = (omega arith, omega arith, readable (c .before .before .before .before))
+
+returns-2 : tie.Need-returns-2
+returns-2 c =
+    let s = c .before .before .before .before .before in
+    let a = s .args in
+    let p = s .pre in
     walk-whole (a .w) (a .h) (boxOf (a .a)) (a .t .now) (c .walk .result) (p .0) (p .1) (p .2) (p .3)
     (c .walk .ensures)
 
 pub least-under-spec : {M : Type 1} → statement M
-least-under-spec = tie.close (tie.spec walk-requires returns)
+least-under-spec =
+    tie.close (tie.spec shared-slice-read-b cast-node node-requires returns walk-requires returns-2)

@@ -1,17 +1,17 @@
 -- `put` meets its contract: before each turn the first i bytes of the tree stand at the front.
-use mathlib.Core.Path.{_≡_, refl, _∙_}
+use mathlib.Core.Path.{_≡_, refl, ap, _∙_}
 use Prim.Native.Nat.{_≤_, _-_}
 use native.Mathlib.Omega.{arith}
 use lib.ListN.{length, length-set}
-use Rattle.regions.proofs.PutLaws.{front, front-more, front-put}
+use Rattle.regions.proofs.PutLaws.{front, front-more, front-whole}
 use Rattle.regions.proofs.put.put.Statement.{statement}
 use Rattle.regions.proofs.put.put.Tie as tie
 
 abbrev Inv-loop : tie.InvT-loop
-Inv-loop tree n out₀ bytes i₀ out i = (i ≤ n) × (out ≡ front i tree out₀) × (length out ≡ length out₀)
+Inv-loop tree out₀ n i₀ out i = (i ≤ n) × (out ≡ front i tree out₀) × (length out ≡ length out₀)
 
 abbrev μ-loop : tie.MeasureT-loop
-μ-loop tree n out₀ bytes i₀ out i = n - i
+μ-loop tree out₀ n i₀ out i = n - i
 
 loop-holds : tie.Need-loop-holds Inv-loop μ-loop
 loop-holds c = (omega arith, refl, refl)
@@ -31,7 +31,7 @@ loop-less c = omega arith
 loop-again : tie.Need-loop-again Inv-loop μ-loop
 loop-again c =
     let at-loop = c .before .before in
-    let a = at-loop .before .before .args in
+    let a = at-loop .before .args in
     let inv = at-loop .loop .inv in (
       omega arith,
       rw (inv .1) (front-more (at-loop .loop .i) (a .tree .now) (a .out .now) (omega arith) (omega arith)),
@@ -44,9 +44,10 @@ same-length c = c .before .loop .inv .2
 returns : tie.Need-returns Inv-loop μ-loop
 returns c =
     let at-loop = c .before in
-    let a = at-loop .before .before .args in
-    let all : at-loop .loop .i ≡ a .n = omega arith in
-    rw (← all) (at-loop .loop .inv .1 ∙ front-put (at-loop .loop .i) (a .tree .now) (a .out .now) (omega arith))
+    let a = at-loop .before .args in
+    let all : at-loop .loop .i ≡ length (a .tree .now) = omega arith in
+    at-loop .loop .inv .1 ∙ ap (λ i. front i (a .tree .now) (a .out .now)) all ∙ front-whole (a .tree .now)
+    (a .out .now)
 
 pub put-spec : {M : Type 1} → statement M
 put-spec =

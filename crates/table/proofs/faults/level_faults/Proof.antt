@@ -1,5 +1,5 @@
 -- Before each turn the flags say the faults of the rows below b.
-use mathlib.Core.Path.{_≡_, ap, _∙_, subst}
+use mathlib.Core.Path.{_≡_, ap, _∙_}
 use mathlib.Core.Bool.{not}
 use Prim.Native.Nat.{_+_, _-_, _*_, _≤_, _<_}
 use native.Mathlib.Nat.{le-add-right}
@@ -55,18 +55,16 @@ inside c =
     let columns = rows .before in
     let s = columns .before in
     let a = s .args in
-    rw (s .pre .4)
-    (row-fits (a .w) (a .h) (a .level) (columns .functions .result) (c .before .loop .b)
-    (columns .functions .ensures .0)
-    (subst (λ k. c .before .loop .b < k) (rows .functions2 .ensures .0) (c .loop-test .taken)))
+    row-fits (a .w) (a .h) (a .level) (c .before .loop .b) (columns .functions .result) (rows .functions2 .result)
+    (a .part .now) (columns .functions .ensures .0) (rows .functions2 .ensures .0) (c .loop-test .taken) (s .pre .4)
 
 small : (c : tie.In-loop Inv-loop μ-loop)
     → (c .before .loop .b * c .before .before .before .before .before .functions .result ≤ 4489)
     × (c .before .loop .b < 67)
 small c =
     let rows = c .before .before .before .before in
-    let few : c .before .loop .b < 67 = omega (arith, c .loop-test .taken, rows .functions2 .ensures .1) in
-    (row-small (c .before .loop .b) (rows .before .functions .result) few (rows .before .functions .ensures .1), few)
+    row-small (c .before .loop .b) (rows .functions2 .result) (rows .before .functions .result) (c .loop-test .taken)
+    (rows .functions2 .ensures .1) (rows .before .functions .ensures .1)
 
 mul-from : tie.Need-mul-from Inv-loop μ-loop
 mul-from c = omega (arith, small (c .before .before) .0)

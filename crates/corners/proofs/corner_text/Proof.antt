@@ -1,0 +1,52 @@
+use mathlib.Core.Path.{sym}
+use Prim.Native.Nat.{_≤_}
+use native.Mathlib.Omega.{arith}
+use lib.ListN.{length}
+use lib.Seq.{length-take-le}
+use borrow.Author.Needs.{needs}
+use Rattle.corners.proofs.corner_text.Statement.{statement}
+use Rattle.corners.proofs.corner_text.Tie as tie
+
+places-named-requires : tie.Need-places-named-requires
+places-named-requires c κs = search needs
+
+slice-aggregate-text-into : tie.Need-slice-aggregate-text-into
+slice-aggregate-text-into c = search needs
+
+sub-text-into : tie.Need-sub-text-into
+sub-text-into c = search needs
+
+part-numbers-start : tie.Need-part-numbers-start
+part-numbers-start c = search needs
+
+part-numbers-end : tie.Need-part-numbers-end
+part-numbers-end c = search needs
+
+text-into-requires : tie.Need-text-into-requires
+text-into-requires c κs = search needs
+
+same-length : tie.Need-same-length
+same-length c = search needs
+
+returns : tie.Need-returns
+returns c =
+    let t = c .before .before .before .before in
+    let s = t .before .before .before .before .before .before .before in
+    let r = t .text-into .result in
+    let o = t .text-into .last .1 .1 .1 .0 in
+    let e = t .text-into .ensures in
+    let fits : r ≤ length o = omega (arith, e .1, t .text-into .kept .1 .1 .1 .0, s .pre) in
+    ((fits, sym (length-take-le r o fits)), e .0 .1)
+
+pub corner-text-spec : {M : Type 1} → statement M
+corner-text-spec =
+    tie.close
+    (tie.spec
+    places-named-requires
+    slice-aggregate-text-into
+    sub-text-into
+    part-numbers-start
+    part-numbers-end
+    text-into-requires
+    same-length
+    returns)

@@ -1,0 +1,131 @@
+-- Before each turn the rows up to v are put after the header.
+use mathlib.Core.Path.{_≡_, refl, _∙_, subst}
+use mathlib.Core.List.{List}
+use Prim.Native.Nat.{ℕ, _+_, _-_, _*_, _≤_, _<_}
+use native.Mathlib.Omega.{arith}
+use lib.ListN.{length}
+use Rattle.surface.proofs.TableLaws.{sound, sides}
+use Rattle.finite.specs.Range.{joined}
+use Rattle.corners.specs.Text.{header, cornerLine}
+use Rattle.corners.specs.Buffers.{Put}
+use Rattle.corners.proofs.CornerLaws.{tree-of}
+use Rattle.corners.proofs.TextLaws.{put-both, put-next, put-none, table-parts}
+use Rattle.corners.proofs.table_text.Statement.{statement}
+use Rattle.corners.proofs.table_text.Tie as tie
+
+abbrev Inv-loop : tie.InvT-loop
+Inv-loop tree cs w h out₀ map at₀ v₀ out at v =
+    (v ≤ h + 1)
+    × (length out ≡ length out₀)
+    × (at ≤ at₀ + 99 * v)
+    × Put (joined v (λ v. joined (w + 1) (cornerLine w h tree cs v))) at₀ out₀ at out
+
+abbrev μ-loop : tie.MeasureT-loop
+μ-loop tree cs w h out₀ map at₀ v₀ out at v = h + 1 - v
+
+within : (c : tie.Start Inv-loop μ-loop) → let a = c .args in (0 < a .w) × (a .w ≤ 8) × (0 < a .h) × (a .h ≤ 8)
+within c = sides (sound (c .args .w) (c .args .h) (c .args .tree .now) (c .args .cs .now) (c .pre .0))
+
+paint-requires : tie.Need-paint-requires Inv-loop μ-loop
+paint-requires c κs =
+    let s = c .before .before in
+    let a = s .args in
+    (a .w, a .h, tree-of (a .w) (a .h) (a .tree .now) (a .cs .now) (s .pre .0))
+
+header-requires : tie.Need-header-requires Inv-loop μ-loop
+header-requires c κs = omega (arith, c .before .before .before .before .pre .1)
+
+loop-holds : tie.Need-loop-holds Inv-loop μ-loop
+loop-holds c =
+    let h = c .before .before in
+    let a = h .before .before .before .before .before .args in (
+      omega arith,
+      refl,
+      omega arith,
+      put-none (λ v. joined (a .w + 1) (cornerLine (a .w) (a .h) (a .tree .now) (a .cs .now) v)) (h .header .result)
+          (h .header .last .0),
+    )
+
+row-requires : tie.Need-row-requires Inv-loop μ-loop
+row-requires c κs =
+    let l = c .before .before .before in
+    let h = l .before .before .before in
+    let p = h .before .before in
+    let s = p .before .before .before in
+    let taken = c .before .before .loop-test .taken in (
+      taken,
+      (s .args .tree .now, p .paint .ensures, s .pre .0),
+      omega (
+        arith,
+        taken,
+        within s,
+        l .loop .inv .1,
+        l .loop .inv .2,
+        h .header .ensures .0,
+        h .header .kept .0,
+        s .pre .1,
+      ),
+    )
+
+add-v : tie.Need-add-v Inv-loop μ-loop
+add-v c =
+    let l = c .before .before .before .before .before .before in
+    omega (arith, l .loop .inv .0, within (l .before .before .before .before .before .before .before .before))
+
+loop-less : tie.Need-loop-less Inv-loop μ-loop
+loop-less c = omega (arith, c .before .before .before .before .before .loop-test .taken)
+
+loop-again : tie.Need-loop-again Inv-loop μ-loop
+loop-again c =
+    let d = c .before .before in
+    let turn = d .before .before .before in
+    let l = turn .before in
+    let h = l .before .before .before in
+    let p = h .before .before in
+    let s = p .before .before .before in
+    let a = s .args in
+    let rows : ℕ → List ℕ = λ v. joined (a .w + 1) (cornerLine (a .w) (a .h) (a .tree .now) (a .cs .now) v) in (
+      omega (arith, turn .loop-test .taken),
+      d .row .kept .1 .1 .1 .1 .1 .0 ∙ l .loop .inv .1,
+      omega (arith, d .row .ensures .1, l .loop .inv .2),
+      put-next (l .loop .v) rows (rows (l .loop .v)) (h .header .result) (h .header .last .0) (l .loop .at)
+          (l .loop .out) (d .row .result) (d .row .last .1 .1 .1 .1 .1 .0) (l .loop .inv .3)
+          (d .row .ensures .0 (a .tree .now) (p .paint .ensures) (s .pre .0))
+          refl,
+    )
+
+same-length : tie.Need-same-length Inv-loop μ-loop
+same-length c = let l = c .before in l .loop .inv .1 ∙ l .before .before .before .header .kept .0
+
+returns : tie.Need-returns Inv-loop μ-loop
+returns c =
+    let l = c .before in
+    let h = l .before .before .before in
+    let s = h .before .before .before .before .before in
+    let a = s .args in
+    let rows : ℕ → List ℕ = λ v. joined (a .w + 1) (cornerLine (a .w) (a .h) (a .tree .now) (a .cs .now) v) in
+    let all : l .loop .v ≡ a .h + 1 = omega (arith, c .loop-test .left, l .loop .inv .0) in
+    let r = h .header .result in
+    let o = h .header .last .0 in
+    let put = subst (λ n. Put (joined n rows) r o (l .loop .at) (l .loop .out)) all (l .loop .inv .3) in (
+      rw (← table-parts (a .w) (a .h) (a .tree .now) (a .cs .now))
+          (put-both header (joined (a .h + 1) rows) 0 (a .out .now) r o (l .loop .at) (l .loop .out)
+          (h .header .ensures) put),
+      omega (arith, within s, l .loop .inv .2, h .header .ensures .0),
+    )
+
+pub table-text-spec : {M : Type 1} → statement M
+table-text-spec =
+    tie.close
+    (tie.spec
+    Inv-loop
+    μ-loop
+    paint-requires
+    header-requires
+    loop-holds
+    row-requires
+    add-v
+    loop-less
+    loop-again
+    same-length
+    returns)
