@@ -22,7 +22,10 @@ static uint8_t show(const char *when, const uint8_t *t, size_t t_len, const int6
 
 int main(int argc, char **argv) {
   FILE *in = argc == 2 ? fopen(argv[1], "rb") : NULL;
-  if (!in) return 2;
+  if (!in) {
+    fprintf(stderr, "read_and_refine: no table file\n");
+    return 255;
+  }
   size_t file_len = fread(file, 1, sizeof file, in), tree_len, finer_len;
   fclose(in);
   places = kiln_file_places(file, file_len);

@@ -64,7 +64,7 @@ fn unless_refused<T>(number: u8, given: T) -> Result<T, Refusal> {
     match Refusal::of(number) {
         Some(refusal) => Err(refusal),
         None if number == 0 => Ok(given),
-        None => unreachable!("the library has no refusal {number}"),
+        None => panic!("refusal {number} of a library that is newer than this crate"),
     }
 }
 

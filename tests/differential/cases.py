@@ -17,9 +17,17 @@ LEAST, GREATEST = -(2**63), 2**63 - 1
 ODD_SIDES = (0, 9, 2**32 + 1, 2**64 - 1)
 ODD_LEVELS = (0, 4, 257, 2**32 + 2, 2**64 - 1)
 TARIFFS = (0, 1, 1_499, 1_500, 99_999, 100_000, 2**63)
+# A length kept in 16 bits is right but for so many elements.
+LONGER = 65_536
 
 
 def table(rng: Random) -> samples.Table:
+    """An acceptable table on any sheet; sometimes on 8 by 8 with a tree of one leaf above 0, or nearly the largest."""
+    kind = rng.random()
+    if kind < 0.04:
+        return samples.table_of(rng, 8, 8, ((rng.randint(1, 3),) * 32,) * 32)
+    if kind < 0.06:
+        return samples.table_of(rng, 8, 8, samples.speckled_levels(rng, 8, 8, (0, 1, 2, 3)))
     return table_on(rng, rng.randint(1, 8), rng.randint(1, 8))
 
 
@@ -34,8 +42,8 @@ def table_on(rng: Random, w: int, h: int) -> samples.Table:
 
 
 def damaged_tree(rng: Random, tree: List[int]) -> List[int]:
-    """A tree with one fault: empty, cut, longer, another byte, a split too deep or equal leaves."""
-    kind, tree = rng.randrange(7), list(tree)
+    """A tree with one fault: empty, cut, longer, another byte, a split too deep, equal leaves or one leaf above 0."""
+    kind, tree = rng.randrange(8), list(tree)
     if kind == 0 or not tree:
         return []
     if kind == 1:
@@ -50,6 +58,8 @@ def damaged_tree(rng: Random, tree: List[int]) -> List[int]:
         return tree[:at] + [4] + [tree[at]] * 4 + tree[at + 1:]
     if kind == 5:
         return tree[:at] + [4, 0, 0, 0, 1] + tree[at + 1:]
+    if kind == 6:
+        return [rng.randint(1, 3)]
     return [rng.randrange(6) for _ in range(rng.randrange(60))]
 
 
@@ -61,9 +71,9 @@ def damaged(rng: Random, t: samples.Table) -> samples.Table:
         if kind == 0:
             w, h = rng.choice(((rng.choice(ODD_SIDES), h), (w, rng.choice(ODD_SIDES)), (h, w)))
         elif kind == 1:
-            tree = damaged_tree(rng, tree)
+            tree = damaged_tree(rng, tree) if rng.random() < 0.9 else tree + [0] * LONGER
         elif kind == 2:
-            numbers = rng.choice((numbers[:-1], numbers + [0], []))
+            numbers = rng.choice((numbers[:-1], numbers + [0], [], numbers + [0] * LONGER))
         elif numbers:
             limits = calls.surface_of(t.w, t.h, t.tree).limits()
             active = [at for at, limit in enumerate(limits) if limit is not None and at < len(numbers)]
@@ -74,11 +84,13 @@ def damaged(rng: Random, t: samples.Table) -> samples.Table:
 
 
 def box(rng: Random, w: int, h: int) -> Tuple[int, int, int, int]:
-    w, h = min(w, 8) or 1, min(h, 8) or 1
-    u0, v0, u1, v1 = samples.random_box(rng, w, h)
-    return rng.choice(((u0, v0, u1, v1),) * 6 + ((u1, v0, u0, v1), (u0, v0, u1, v0), (u0, v0, 4 * w + 1, v1),
-                      (0, 0, 4 * w, 4 * h), (2**64 - 1, 0, 2**63, 1), (0, 0, 32, 32),
-                      (0, 0, 2**32 + 4 * w, 2**32 + 4 * h)))
+    """A box inside or the whole sheet; else reversed, with no area, past the sheet by one or by far, along u or v."""
+    wide, high = 4 * (min(w, 8) or 1), 4 * (min(h, 8) or 1)
+    u0, v0, u1, v1 = samples.random_box(rng, wide // 4, high // 4)
+    return rng.choice(((u0, v0, u1, v1),) * 10 + (
+        (u1, v0, u0, v1), (u0, v1, u1, v0), (u0, v0, u0, v1), (u0, v0, u1, v0), (u0, v0, wide + 1, v1),
+        (u0, v0, u1, high + 1), (0, 0, wide, high), (0, 0, 32, 32), (2**64 - 1, 0, 2**63, 1),
+        (0, 2**64 - 1, 1, 2**63), (0, 0, 2**32 + wide, high), (0, 0, wide, 2**32 + high)))
 
 
 def sometimes_damaged(rng: Random, t: samples.Table, share: float = 0.3) -> samples.Table:
@@ -93,8 +105,37 @@ def sloped_table(rng: Random) -> samples.Table:
     return samples.Table(w, h, [0], coarse + [0] * (total_places(w, h) - len(coarse)))
 
 
+def half_table(rng: Random) -> samples.Table:
+    """A table with every number a half above whole watts, but for some off by one unit, so that it reads near halves.
+    Those off are four apart, so that a point beside a half cell's edge is at the very corner of one of level 3."""
+    w, h = rng.choice((1, 1, 2, 8)), rng.choice((1, 1, 2, 8))
+    levels = samples.random_levels(rng, w, h, 2) if rng.random() < 0.3 else ((0,) * 32,) * 32
+    tree = quadtree.tree_of(quadtree.raised(levels, (0, 0, 4 * w, 4 * h), rng.choice((1, 3, 3, 3))))
+    surface, watts = calls.surface_of(w, h, tree), rng.choice((0, -1, 31_999, -32_000, rng.randint(-32_000, 31_999)))
+    doubled = samples.equal_coefficients(surface, 2 * watts + 1)
+    values = [number // 2 for number in doubled]
+    for level in (1, 2, 3):
+        for i, j in surface.active_functions(level):
+            if i % 4 == j % 4 == 0:
+                values[surface.place(level, i, j)] += rng.choice((-1, -1, 0, 1))
+    return samples.Table(w, h, tree, values)
+
+
+def limit_table(rng: Random) -> samples.Table:
+    """A table with every number at its limit, all of one sign, so that it reads 32,000 watts or -32,000."""
+    t = table(rng)
+    watts = rng.choice((32_000, -32_000))
+    return t._replace(coefficients=samples.equal_coefficients(calls.surface_of(t.w, t.h, t.tree), watts))
+
+
 def reading_table(rng: Random) -> samples.Table:
-    return sloped_table(rng) if rng.random() < 0.2 else table(rng)
+    return rng.choice((sloped_table, half_table, half_table, limit_table) + (table,) * 6)(rng)
+
+
+def _beside(rng: Random, side: int) -> int:
+    """A place along one side, one or two steps beside an edge of half a cell."""
+    side = min(side, 8) or 1
+    return min(max(64 * rng.randint(0, 2 * side) + rng.choice((-2, -1, -1, 1, 1, 2)), 1), 128 * side - 1)
 
 
 def _steps(rng: Random, side: int) -> int:
@@ -107,7 +148,8 @@ def _steps(rng: Random, side: int) -> int:
 
 
 def point(rng: Random, w: int, h: int) -> Tuple[int, int]:
-    return _steps(rng, w), _steps(rng, h)
+    along = _beside if rng.random() < 0.25 else _steps
+    return along(rng, w), along(rng, h)
 
 
 def tariff(rng: Random) -> int:
@@ -115,18 +157,26 @@ def tariff(rng: Random) -> int:
 
 
 def output_length(rng: Random, exact: int) -> int:
-    return rng.choice((exact,) * 6 + (exact + 1, max(exact - 1, 0), 0))
+    return rng.choice((exact,) * 7 + (exact + 1, max(exact - 1, 0), 0, exact + LONGER))
+
+
+def _index(rng: Random, side: int, level: int) -> int:
+    """An index of a level along one side of the table's own sheet: an end, the next beyond it, anywhere, far away."""
+    end = (min(side, 8) or 1) * 2**min(level, 3)
+    return rng.choice((-4, -3, end - 1, end, rng.randint(-3, end - 1), rng.randint(-4, 64), LEAST, GREATEST))
 
 
 def setting(rng: Random, t: samples.Table) -> Tuple[int, int, int, int]:
-    """A level, a place and a number to set there: mostly of an active function, else anywhere and beyond."""
-    level = rng.choice((0, 1, 2, 3, 3, 4, 2**50))
-    side, ends = 8 * 2**min(level, 3), (-3, LEAST, GREATEST)
-    i, j = (rng.choice((rng.randint(-4, side), rng.randint(-4, side), *ends)) for _ in range(2))
-    if rng.random() < 0.7 and calls.judge_regions(t.w, t.h, t.tree) is None:
+    """A level, a place and a number to set there: mostly of an active function, or beside one, else anywhere."""
+    level, kind = rng.choice((0, 1, 2, 3, 3, 4, 2**50)), rng.random()
+    if kind < 0.75 and calls.judge_regions(t.w, t.h, t.tree) is None:
         surface = calls.surface_of(t.w, t.h, t.tree)
         level = rng.choice([n for n in LEVELS if surface.active_functions(n)])
         i, j = rng.choice(surface.active_functions(level))
+        if kind < 0.25:
+            i, j = rng.choice(((_index(rng, t.w, level), j), (i, _index(rng, t.h, level))))
+    else:
+        i, j = _index(rng, t.w, level), _index(rng, t.h, level)
     limit = 32_000 * 64**min(level, 3)
     return level, i, j, rng.choice((0, 5, -limit, limit, limit + 1, -limit - 1, LEAST))
 
@@ -151,8 +201,8 @@ def insertion(rng: Random, t: samples.Table) -> samples.Insertion:
     level = rng.choice((1, 2, 3) * 10 + ODD_LEVELS)
     exact, places = _tree_after(t, given, level), all_places(t.w, t.h)
     enough = (exact, exact, exact + rng.randint(1, 40), quadtree.GREATEST_TREE, quadtree.GREATEST_TREE + 35)
-    tree_length = rng.choice(enough * 4 + (0, 1, max(exact - 1, 0)))
-    numbers_length = rng.choice((places,) * 30 + (places + 1, places - 1, 0))
+    tree_length = rng.choice(enough * 4 + (0, 1, max(exact - 1, 0), LONGER))
+    numbers_length = rng.choice((places,) * 30 + (places + 1, places - 1, 0, places + LONGER))
     return samples.Insertion(given, level, [at % 251 for at in range(tree_length)], list(range(7, 7 + numbers_length)))
 
 

@@ -151,8 +151,9 @@ def lengths(rng: Random, t: samples.Table) -> Tuple[int, int]:
     """The lengths of the outputs; about one in four is too short for the tree or not that of the numbers."""
     n, places = len(t.tree), total_places(t.w, t.h)
     room = rng.choice((n, n, n + rng.randint(1, 40), quadtree.GREATEST_TREE, quadtree.GREATEST_TREE + 35))
-    return (rng.choice((room,) * 12 + (n - 1, 0)),
-            rng.choice((places,) * 20 + (places + 1, places - 1, 0, total_places(rng.randint(1, 8), t.h))))
+    return (rng.choice((room,) * 12 + (n - 1, 0, n + cases.LONGER)),
+            rng.choice((places,) * 20 + (places + 1, places - 1, 0, places + cases.LONGER,
+                                         total_places(rng.randint(1, 8), t.h))))
 
 
 def read_file(rng: Random, lib: Library) -> Iterator[str]:
@@ -211,6 +212,7 @@ def two_faults(lib: Library) -> List[str]:
         ("a head cut, 12, with 13", b"\7\0", 12), ("13 with 14", field(7, b""), 13), ("13 with 12", b"\7\0\2", 13),
         ("14 with a body cut, 12", b"\1\0\3", 14), ("a body cut, 12, with 1", b"\1\0\2\0", 12),
         ("1 with 12", field(1, b"\0\1"), 1), ("1 with 13", field(1, b"\1\11") + field(7, b""), 1),
+        *(("1 with 13", field(1, body) + field(7, b""), 1) for body in (b"\1\0", b"\0\1", b"\11\1")),
         ("14 with 2", sides + field(2, b"\5" * 1_366), 14), ("a body cut, 12, with 2", sides + b"\2\0\2\5", 12),
         ("2 with 13", sides + field(2, b"\1") + field(7, b""), 2), ("2 with 4", sides + field(2, b"\0\0") + over, 2),
         ("14 with 4", sides + tree + field(16, coefficient_bytes(-32_001) * 17), 14),
@@ -240,5 +242,22 @@ def sheets(rng: Random, lib: Library) -> List[str]:
     return found
 
 
+def last_bytes(rng: Random, lib: Library) -> List[str]:
+    """For every size of sheet a file whose last byte is of level 3: whole, and cut by that byte or by its number."""
+    sides = [(w, h) for w in range(1, 9) for h in range(1, 9)]
+    tables = [samples.table_of(rng, w, h, quadtree.raised(samples.random_levels(rng, w, h, 2),
+                                                          (4 * w - 1, 4 * h - 1, 4 * w, 4 * h), 3))
+              for w, h in sides]
+    # The largest files: any numbers, and all bits set or all but the last.
+    tables.append(samples.table_of(rng, 8, 8, ((3,) * 32,) * 32))
+    tables += [samples.Table(8, 8, [3], [0] * 1_707 + [number] * 4_489) for number in (-1, -2)]
+    found = []
+    for t in tables:
+        file = write_file(*t)
+        found += [read(lib, f"{less} bytes cut of {t.w} by {t.h}", file[:len(file) - less], len(t.tree),
+                       len(t.coefficients)) for less in (0, 1, COEFFICIENT_BYTES)]
+    return found
+
+
 def fixed(rng: Random, lib: Library) -> List[str]:
-    return small_file(lib) + outputs(lib) + two_faults(lib) + sheets(rng, lib)
+    return small_file(lib) + outputs(lib) + two_faults(lib) + sheets(rng, lib) + last_bytes(rng, lib)

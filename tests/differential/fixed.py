@@ -1,4 +1,5 @@
-"""Fixed cases: document 01's bench sheet, two faults at once, table files, and whole grids around insertions."""
+"""Fixed cases: document 01's bench sheet, two faults at once, edges, table files, and whole grids around
+insertions."""
 from __future__ import annotations
 
 from functools import partial
@@ -6,6 +7,7 @@ from random import Random
 from typing import List, Sequence, Tuple
 
 import cases
+import edges
 import files
 import insertions
 from cases import samples
@@ -203,5 +205,5 @@ def faults(lib: Library, seed: int, grids: bool) -> List[str]:
     found += two_faults_of_tables(lib) + two_faults_of_calls(lib)
     if grids:
         found += whole_grids(Random(seed), lib)
-    found += files.fixed(Random(seed), lib)
+    found += edges.fixed(Random(seed), lib) + files.fixed(Random(seed), lib)
     return [fault for fault in found if fault]

@@ -8,10 +8,16 @@ import sys
 
 sys.dont_write_bytecode = True
 
+import os
 from argparse import ArgumentParser, Namespace
 from itertools import count
+from mmap import mmap
 from pathlib import Path
 from random import Random
+from signal import SIGKILL
+from struct import pack, unpack
+from time import monotonic, sleep
+from traceback import print_exc
 from typing import Callable, Dict, Iterator, List, Tuple
 
 import demands
@@ -26,6 +32,10 @@ TOTAL = 3_000
 # From so many calls on, each kind of call must have been accepted and refused; so many faults are enough; and after so
 # many calls a line is printed.
 ENOUGH, GREATEST_FAULTS, STEP = 2_000, 5, 10_000
+# What the fixed cases have for a number, and how long they or one generated case may take.
+FIXED, LIMIT_SECONDS = -1, 600
+
+Begun = Callable[[int], None]
 
 KINDS: Dict[str, Callable[[Random, Library], Iterator[str]]] = {
     **tables.KINDS, **insertions.KINDS, **files.KINDS, **demands.KINDS}
@@ -47,57 +57,93 @@ def one_sided(counts: Dict[str, List[int]]) -> List[str]:
         if count == 0 and (word == "accepted" or kind.split(",")[0] not in demands.KINDS)]
 
 
-def generated(lib: Library, words: str, command: str, total: int, seed: int) -> Tuple[int, int]:
+def generated(lib: Library, words: str, command: str, asked: Namespace, begun: Begun) -> Tuple[int, int]:
     """Makes generated cases until so many calls are held to the evaluator, and returns the calls and the faults."""
     made, faults, told = 0, 0, 0
     for k in count():
-        if made >= total:
+        if made >= asked.calls:
             break
-        alone = f"{command} --case {k} --seed {seed}"
-        try:
-            for fault in one_case(lib, k, seed):
-                made += 1
-                if fault:
-                    faults += 1
-                    print(f"case {k} of seed {seed}: {fault[:2000]}\nalone: {alone}", flush=True)
-                    break
-        except BaseException:
-            print(f"case {k} of seed {seed} was left; alone: {alone}", flush=True)
-            raise
+        begun(k)
+        for fault in one_case(lib, k, asked.seed):
+            # A trial of demand 3 holds readings to each other or to a range, so that it does not count.
+            made += lib.kind not in demands.KINDS
+            if fault:
+                faults += 1
+                print(f"case {k} of seed {asked.seed}: {fault[:2000]}\nalone: {alone(command, asked, k)}", flush=True)
+                break
         if faults >= GREATEST_FAULTS:
             print(f"{words}: stopped after case {k}")
             break
         if made >= told + STEP:
             told = made - made % STEP
-            print(f"{words}: {made} of {total} calls", flush=True)
-    if faults == 0 and total >= ENOUGH:
+            print(f"{words}: {made} of {asked.calls} calls", flush=True)
+    if faults == 0 and asked.calls >= ENOUGH:
         for fault in one_sided(lib.counts):
             faults += 1
-            print(f"in {made} calls of seed {seed}: {fault}")
+            print(f"in {made} calls of seed {asked.seed}: {fault}")
     return made, faults
 
 
-def hold(lib: Library, words: str, command: str, asked: Namespace, grids: bool = True) -> int:
+def alone(command: str, asked: Namespace, case: int) -> str:
+    """The command that makes one generated case, or the fixed cases, alone."""
+    return f"{command} --case {case} --seed {asked.seed}" if case >= 0 else f"{command} 0 {asked.seed}"
+
+
+def work(lib: Library, words: str, command: str, asked: Namespace, grids: bool, begun: Begun) -> int:
     """Makes the case that is asked for, or the fixed cases and generated calls, and returns the exit code."""
     if asked.case is not None:
+        begun(asked.case)
         made = list(one_case(lib, asked.case, asked.seed))
         found = [fault for fault in made if fault]
         told = f"case {asked.case} of seed {asked.seed} ({lib.kind}), {len(made)} calls"
         print("\n".join(found) or f"{words}: {told}, has no fault")
         faults = len(found)
     else:
+        begun(FIXED)
         wrong = fixed.faults(lib, asked.seed, grids)
         for fault in wrong:
-            print(f"fixed case: {fault[:2000]}\nalone: {command} 0 {asked.seed}")
-        before = lib.made()
+            print(f"fixed case: {fault[:2000]}\nalone: {alone(command, asked, FIXED)}", flush=True)
         lib.counts.clear()
-        calls, faults = generated(lib, words, command, asked.calls, asked.seed)
+        calls, faults = generated(lib, words, command, asked, begun)
         faults += len(wrong)
-        print(f"{words}: {before} calls of fixed cases and {calls} generated calls, {faults} faults")
+        print(f"{words}: the fixed cases and {calls} generated calls, {faults} faults")
     if asked.counts:
         for kind, (accepted, refused) in lib.counts.items():
             print(f"{kind}: {accepted} accepted, {refused} refused")
     return 1 if faults else 0
+
+
+def hold(lib: Library, words: str, command: str, asked: Namespace, grids: bool = True) -> int:
+    """Does the work in a process of its own, so that a case in which a call crashes or never ends is told too."""
+    at = mmap(-1, 8)
+    sys.stdout.flush()
+    child = os.fork()
+    if child == 0:
+        code = 2
+        try:
+            code = work(lib, words, command, asked, grids, lambda k: at.__setitem__(slice(0, 8), pack("=q", k)))
+        except BaseException:
+            print_exc()
+        sys.stdout.flush()
+        os._exit(code)
+    seen, since = at[:], monotonic()
+    while True:
+        ended, status = os.waitpid(child, os.WNOHANG)
+        if at[:] != seen:
+            seen, since = at[:], monotonic()
+        late = monotonic() - since > LIMIT_SECONDS
+        if ended and os.waitstatus_to_exitcode(status) in (0, 1):
+            return os.waitstatus_to_exitcode(status)
+        if ended or late:
+            how = "has not ended" if late else f"ended with {os.waitstatus_to_exitcode(status)}"
+            case = unpack("=q", seen)[0]
+            named = f"case {case} of seed {asked.seed}" if case >= 0 else "a fixed case"
+            print(f"{words}: {named} {how}; alone: {alone(command, asked, case)}", flush=True)
+            if not ended:
+                os.kill(child, SIGKILL)
+                os.waitpid(child, 0)
+            return 1
+        sleep(0.05)
 
 
 def asked_for(script: str) -> Namespace:

@@ -1,4 +1,4 @@
-/* Makes the calls of include/kiln.h that take or make a table, on document 01's bench sheet, refused ones included.
+/* Makes every call of include/kiln.h on document 01's bench sheet, refused ones included.
    Prints a line for each thing that is not as the bench sheet says, and a count at the end. */
 #include "kiln.h"
 
@@ -128,6 +128,22 @@ static void trees(void) {
   HELD(kiln_fresh(1, 1, 0, NULL, 0, more, ONE, &length) == KILN_TREE_OUTPUT_SHORT);
 }
 
+/* "The table file": that of S, and the same cut short by a byte, and none. */
+static void file_of_s(void) {
+  static const uint8_t heads[12] = {1, 0, 2, 1, 1, 2, 0, 1, 0, 16, 0, 80}, tail[9] = {17, 0, 0, 18, 0, 0, 19, 0, 0};
+  uint8_t file[101];
+  size_t w, h;
+  memcpy(file, heads, 12);
+  for (size_t k = 0; k < 16; k++)
+    for (size_t b = 0; b < 5; b++) file[12 + 5 * k + b] = (uint8_t)((uint64_t)s[k] >> (8 * (4 - b)));
+  memcpy(file + 92, tail, 9);
+  HELD(kiln_file_places(file, 101) == ONE);
+  HELD(kiln_read_file(file, 101, tree, 1, more, ONE, &length, &w, &h) == KILN_DONE);
+  HELD(length == 1 && w == 1 && h == 1 && tree[0] == 0 && !memcmp(more, s, sizeof s));
+  HELD(kiln_read_file(file, 100, tree, 1, more, ONE, &length, &w, &h) == KILN_FILE_ENDS);
+  HELD(kiln_read_file(NULL, 0, NULL, 0, NULL, 0, &length, &w, &h) == KILN_FILE_ENDS);
+}
+
 int main(void) {
   sheet_s();
   box_inserted();
@@ -135,6 +151,7 @@ int main(void) {
   coefficients_set();
   costs();
   trees();
+  file_of_s();
   printf("calls from C: %d held, %d not\n", made - wrong, wrong);
   return wrong != 0;
 }

@@ -24,7 +24,13 @@ c=(gcc -O2 -std=c11 -Wall -Wextra -Werror -Iinclude)
 "${c[@]}" -o "$room/calls" tests/hands/calls.c "$archive" -lm
 calls=$("$room/calls") || { echo "$calls"; exit 1; }
 
-echo '#include "kiln.h"' | g++ -std=c++11 -Wall -Wextra -Werror -Iinclude -fsyntax-only -x c++ -
+# From C++ the same names link; an empty file is refused with 12.
+echo '#include "kiln.h"
+int main() {
+  size_t length, w, h;
+  return kiln_read_file(nullptr, 0, nullptr, 0, nullptr, 0, &length, &w, &h) == KILN_FILE_ENDS ? 0 : 1;
+}' | g++ -std=c++11 -Wall -Wextra -Werror -Iinclude -o "$room/calls_cpp" -x c++ - -x none "$archive"
+"$room/calls_cpp"
 
 # The archive's calls, those that the header declares and those that the Rust crate declares.
 nm "$archive" | awk '$2 == "T" && $3 ~ /^kiln_/ { print $3 }' | sort >"$room/archive.names"
@@ -52,6 +58,10 @@ done
 log=$PWD/$room/cargo.log
 (cd rust && CARGO_TARGET_DIR=../target/cargo cargo test --offline --locked) >"$log" 2>&1 || { cat "$log"; exit 1; }
 doc_tests=$(sed -n '/Doc-tests/,$ s/^test result: ok\. \([0-9]*\) passed.*/\1/p' "$log")
+if [ "${doc_tests:-0}" -eq 0 ]; then
+  echo "hands: no doc test of the Rust crate ran" >&2
+  exit 1
+fi
 
 echo "hands: $calls; $(wc -l <"$room/header.names") calls declared; example as expected on ${#files[@]} files;" \
   "$doc_tests doc tests of the Rust crate passed"

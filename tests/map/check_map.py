@@ -8,9 +8,11 @@ from __future__ import annotations
 import re
 import sys
 from pathlib import Path
-from typing import Dict, List, Set
+from typing import Dict, List
 
 ROOT = Path(__file__).resolve().parents[2]
+# A path in the text, but for the gate itself; and a file that may be named, with what it declares.
+PATH = re.compile(r"`(?!\.ci/)([^`\s]*/[^`\s]*)`")
 ENTRY = re.compile(r"`((?:crates|tests|docs|include)/[^`#\s]+)(?:#([^`\s]+))?`")
 # The lines that each entry of a part has; a part's title is that of its file, else that of its section.
 LINES = {
@@ -34,7 +36,8 @@ def declares(text: str, name: str, kind: str) -> bool:
 
 def missing(text: str) -> List[str]:
     """Names in the map that nothing declares."""
-    faults = []
+    faults = [f"{word}: no name of a file that the map may have" for word in PATH.findall(text)
+              if not ENTRY.fullmatch(f"`{word}`")]
     for path, name in ENTRY.findall(text):
         file = ROOT / path
         if not file.is_file():
@@ -51,31 +54,37 @@ def unlisted(misreadings: str) -> List[str]:
     return [f"{edit}: {named.count(edit)} times among the misreadings" for edit in edits if named.count(edit) != 1]
 
 
-def entries_of(text: str) -> Dict[str, Dict[str, Set[str]]]:
-    """For each part the lines of each entry, by the entry's first line."""
-    parts: Dict[str, Dict[str, Set[str]]] = {}
-    part: Dict[str, Set[str]] = {}
-    lines: Set[str] = set()
-    file = ""
+def entries_of(text: str) -> Dict[str, Dict[str, Dict[str, str]]]:
+    """For each part the lines of each entry, by the entry's first line and the line's first word."""
+    parts: Dict[str, Dict[str, Dict[str, str]]] = {}
+    part: Dict[str, Dict[str, str]] = {}
+    lines: Dict[str, str] = {}
+    file = word = ""
     for line in text.splitlines():
         if line.startswith("#"):
             title = line.lstrip("# ")
             file = title if line.startswith("# ") else file
             part = parts.setdefault(file if file in LINES else title, {})
         elif line.startswith("- "):
-            lines = part.setdefault(line[2:], set())
+            lines = part.setdefault(line[2:], {})
         elif line.startswith("  - "):
-            lines.add(line[4:].split(":")[0])
+            word, lines[word] = line[4:].split(":")[0], line
+        elif line.startswith("    "):
+            lines[word] += line
     return parts
 
 
 def incomplete(text: str) -> List[str]:
-    """Entries that lack a line, and refusal numbers that have no entry."""
+    """Entries that lack a line or a name in it, refusal numbers and functions for C that are not in the map."""
     parts = entries_of(text)
-    faults = [f"{part}: {entry}: no {line}" for part, due in LINES.items() for entry, lines in parts[part].items()
-              for line in due if line not in lines]
+    faults = [f"{part}: {entry}: no name as its {line}" for part, due in LINES.items()
+              for entry, lines in parts[part].items() for line in due if not ENTRY.search(lines.get(line, ""))]
     told = {int(entry.split(":")[0]) for entry in parts["Refusal numbers"]}
-    return faults + [f"refusal {number}: not in the map" for number in REFUSALS if number not in told]
+    faults += [f"refusal {number}: not in the map" for number in REFUSALS if number not in told]
+    boundary = (ROOT / "crates/boundary/src/lib.rt").read_text(encoding="utf-8")
+    promised = "".join(lines["promise"] for lines in parts["Calls"].values())
+    return faults + [f"{name}: not among the calls" for name in re.findall(r"\bfn (kiln_\w+)", boundary)
+                     if f"#{name}`" not in promised]
 
 
 def main() -> int:

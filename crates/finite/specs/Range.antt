@@ -1,4 +1,5 @@
--- Sums, tests, minima, counts, tables and joined lists over the numbers 0 to n - 1, and over a grid of n columns and m rows.
+-- Sums, tests, minima, counts, tables and joined lists over the numbers 0 to n - 1, and over a grid of n columns and
+-- m rows.
 use mathlib.Core.Bool.{Bool, true, _&&_, cond}
 use mathlib.Core.List.{List, [], _∷_, _++_}
 use Prim.Native.Nat.{ℕ, zero, suc, _+_, min}

@@ -1,24 +1,18 @@
 -- The definitions applied to small cases, which compute: what a reader can work by hand from document 01.
 use mathlib.Core.Path.{_≡_, refl}
-use mathlib.Core.Bool.{Bool, true, false, not, _&&_, _||_, cond}
-use mathlib.Core.List.{List, [], _∷_}
-use Prim.Native.Nat.{ℕ, _+_, _*_, _^_, _≤_}
-use native.Mathlib.Omega.{arith}
+use mathlib.Core.Bool.{_&&_, cond}
+use mathlib.Core.List.{[], _∷_}
+use Prim.Native.Nat.{ℕ, _*_, _^_}
 use lib.IntN.{pos, negℤ, _-ℤ_}
-use lib.Dec.{leb, ltb, lit<}
+use lib.Dec.{leb, ltb}
 use lib.ListN.{replicate}
-use borrow.Author.Tests.{not-true, lt-leb}
-use Rattle.finite.specs.Range.{sum, every, least, tableFrom}
+use Rattle.finite.specs.Range.{sum, least, tableFrom}
 use Rattle.surface.specs.Sheet.{Box, eighths}
-use Rattle.surface.specs.Quadtree.{leaf, split, bytes, parse, levelAt, regionTree, visits}
-use Rattle.surface.specs.Support.{leastUnder, active, inRegion}
+use Rattle.surface.specs.Quadtree.{leaf, split, bytes, regionTree, visits}
+use Rattle.surface.specs.Support.{leastUnder, active}
 use Rattle.surface.specs.Spline.{cellOf, piece, splineAt}
 use Rattle.surface.specs.Truncation.{weight, truncated}
 use Rattle.surface.specs.Carry.{raised, carried}
-use Rattle.surface.specs.Table.{levels, everywhere}
-use Rattle.surface.specs.Bench.{flat, refined}
-use Rattle.surface.proofs.TableLaws.{everywhere-true}
-use Rattle.surface.proofs.Demands.{not-truncated}
 
 -- ---- the far edge
 
@@ -58,33 +52,6 @@ pub three-levels : truncated 1 1 islet 64 64 2 1 2 2 ≡ pos 579820584960
 unfolding truncated sum leastUnder least eighths weight splineAt cellOf piece
 three-levels = refl
 
--- What Untruncated asks of a table, as a test on 1 by 1: no function finer than L has its cut support in the region of
--- its level.
-abbrev NoneFiner : List ℕ → ℕ → Type 0
-NoneFiner t L = everywhere 1 1 (λ M c d. leb M L || not (inRegion 1 1 (levels t) M c d)) ≡ true
-
--- Then each function of level L is the product of its two splines at every point.
-whole : (t : List ℕ) (n L : ℕ) → n + L ≡ 3 → NoneFiner t L → (u v a b : ℕ) → u ≤ 128 → v ≤ 128
-    → truncated 1 1 (levels t) u v n L a b ≡ pos (splineAt 1 L a u * splineAt 1 L b v)
-whole t n L e test u v a b hu hv =
-    not-truncated 1 1 (levels t) u v (lit< tt) (lit< tt) hu hv n L a b e
-    (λ M c d l m hc hd _. finer (leb M L) (inRegion 1 1 (levels t) M c d) (lt-leb M L l)
-    (everywhere-true 1 1 (λ M c d. leb M L || not (inRegion 1 1 (levels t) M c d)) test M c d (omega arith) hc hd))
-  where
-    finer : (t s : Bool) → t ≡ false → (t || not s) ≡ true → s ≡ false
-    finer t s p e = not-true s (rw p at e)
-
--- A sheet of level 0 throughout passes, and one of level 1.
-pub whole-unrefined : (u v a b : ℕ) → u ≤ 128 → v ≤ 128
-    → truncated 1 1 (levels flat) u v 3 0 a b ≡ pos (splineAt 1 0 a u * splineAt 1 0 b v)
-unfolding every leastUnder least eighths levels levelAt parse
-whole-unrefined = whole flat 3 0 refl refl
-
-pub whole-refined : (u v a b : ℕ) → u ≤ 128 → v ≤ 128
-    → truncated 1 1 (levels refined) u v 2 1 a b ≡ pos (splineAt 1 1 a u * splineAt 1 1 b v)
-unfolding every leastUnder least eighths levels levelAt parse
-whole-refined = whole refined 2 1 refl refl
-
 -- ---- carrying
 
 -- S's columns −1,000, 0, 1,000, 2,000 become −32,000, 0, 32,000, 64,000, 96,000 at level 1.
@@ -95,15 +62,15 @@ carried-row = refl
 
 -- ---- trees
 
--- the corner's square of side 8: a split of one leaf of level 1 and three of level 0
-pub corner-tree : bytes (regionTree 3 0 0 onCorner) ≡ 4 ∷ 1 ∷ 0 ∷ 0 ∷ 0 ∷ []
-unfolding bytes regionTree
-corner-tree = refl
-
 -- "four children that are equal leaves are not allowed": a square of one level is one leaf
 pub merged-tree : bytes (regionTree 2 0 0 onCorner) ≡ 1 ∷ []
 unfolding bytes regionTree
 merged-tree = refl
+
+-- the corner's square of side 8: a split of one leaf of level 1 and three of level 0
+pub corner-tree : bytes (regionTree 3 0 0 onCorner) ≡ 4 ∷ 1 ∷ 0 ∷ 0 ∷ 0 ∷ []
+unfolding bytes regionTree
+corner-tree = refl
 
 -- of the corner's tree the root and the south-west child are visited for the corner; no child only touched by the box
 pub visited-corner : visits corner 3 0 0 (split (leaf 1) (leaf 0) (leaf 0) (leaf 0)) ≡ 2

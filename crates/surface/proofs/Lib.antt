@@ -25,3 +25,4 @@ pub mod Refusals
 pub mod Writers
 pub mod Demands
 pub mod Bench
+pub mod Unrefined

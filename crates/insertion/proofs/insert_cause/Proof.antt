@@ -20,7 +20,8 @@ check-requires c κs = search needs
 returns : tie.Need-returns
 returns c =
     let a = c .before .before .before .before .args in (
-      at-table (a .w) (a .h) (a .tree .now) (a .cs .now) (boxOf (a .a)) (a .level) (a .numbers-out .now) (c .before .check .result)
+      at-table (a .w) (a .h) (a .tree .now) (a .cs .now) (boxOf (a .a)) (a .level) (a .numbers-out .now)
+          (c .before .check .result)
           (c .before .check .ensures .0) (c .if1 .taken),
       λ e. absurd (c .if1 .taken e),
     )
@@ -54,7 +55,8 @@ by : (c : tie.Else2) (low high exact : Bool)
 by c low high exact =
     let e = c .before .before in
     let a = e .before .before .before .before .args in
-    past-table (a .w) (a .h) (a .tree .now) (a .cs .now) (boxOf (a .a)) (a .level) (a .numbers-out .now) 0 low high exact
+    past-table (a .w) (a .h) (a .tree .now) (a .cs .now) (boxOf (a .a)) (a .level) (a .numbers-out .now)
+    0 low high exact
     (sym (none e)) (sym (c .if2 .left) ∙ c .before .box-cause .ensures)
 
 returns-3 : tie.Need-returns-3

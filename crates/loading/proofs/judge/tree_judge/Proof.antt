@@ -21,7 +21,8 @@ returns : tie.Need-returns
 returns c =
     let f = c .before .before in
     let a = f .before .before .args in
-    tree-faulty (a .file .now) (f .before .before .pre .0) (f .field-at .result) (f .field-at .ensures .0) (a .map .now)
+    tree-faulty (a .file .now) (f .before .before .pre .0) (f .field-at .result) (f .field-at .ensures .0)
+    (a .map .now)
     (c .enum-told .given .0 .0) (c .enum-told .given .1)
 
 -- the field is whole
@@ -30,7 +31,8 @@ size : (c : tie.After-f)
 size c =
     let f = c .before .before in
     let a = f .before .before .args in
-    tree-size (a .file .now) (f .before .before .pre .0) (f .field-at .result) (f .field-at .ensures .0) (c .f .given .0 .0)
+    tree-size (a .file .now) (f .before .before .pre .0) (f .field-at .result) (f .field-at .ensures .0)
+    (c .f .given .0 .0)
     (c .f .given .1) (f .field-at .ensures .1)
 
 sub-formed-map : tie.Need-sub-formed-map
@@ -57,7 +59,8 @@ returns-2 c =
     let s = f .before .before in
     let a = s .args in
     tree-good (a .file .now) (s .pre .0) (f .field-at .result) (f .field-at .ensures .0) (k .f .given .0 .0)
-    (k .f .given .1) (f .field-at .ensures .1) (a .w) (a .h) (s .pre .1) (s .pre .2) _ (sym (m .formed-map .ensures .0) ∙ c .if1 .taken)
+    (k .f .given .1) (f .field-at .ensures .1) (a .w) (a .h) (s .pre .1) (s .pre .2) _
+    (sym (m .formed-map .ensures .0) ∙ c .if1 .taken)
     (m .formed-map .ensures .1 (c .if1 .taken))
 
 returns-3 : tie.Need-returns-3
@@ -68,7 +71,8 @@ returns-3 c =
     let s = f .before .before in
     let a = s .args in
     tree-bad (a .file .now) (s .pre .0) (f .field-at .result) (f .field-at .ensures .0) (k .f .given .0 .0)
-    (k .f .given .1) (f .field-at .ensures .1) (a .w) (a .h) (s .pre .1) (s .pre .2) (sym (m .formed-map .ensures .0) ∙ c .if1 .left)
+    (k .f .given .1) (f .field-at .ensures .1) (a .w) (a .h) (s .pre .1) (s .pre .2)
+    (sym (m .formed-map .ensures .0) ∙ c .if1 .left)
 
 pub tree-judge-spec : {M : Type 1} → statement M
 tree-judge-spec =
