@@ -1,6 +1,6 @@
 /* Loads a table file, reads watts and cost at a point, inserts a box around it and reads again: no figure moves.
 
-   cc -Iinclude examples/read_and_refine.c target/staticlib/libboundary.a -o read_and_refine
+   cc -Iinclude examples/read_and_refine.c target/staticlib/libkiln.a -o read_and_refine
    ./read_and_refine tables/kiln-refined-near-top-heat.table */
 #include "kiln.h"
 

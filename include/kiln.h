@@ -1,8 +1,8 @@
 /* The kiln power surface: the library's calls, for C and C++.
 
    Power draw over chamber temperature and climb rate is a surface of truncated hierarchical bicubic splines on a sheet
-   of W by H cells. The calls make, load, refine and read tables of such a surface. `rt staticlib boundary` writes the
-   library to target/staticlib/libboundary.a, for x86-64. It needs memcpy and memset and nothing else.
+   of W by H cells. The calls make, load, refine and read tables of such a surface. `rt staticlib kiln` writes the
+   library to target/staticlib/libkiln.a, for x86-64. It needs memcpy and memset and nothing else.
 
    Answers
      Every call returns 0 when it is done, else the refusal number of the cause that applies, the lowest where several

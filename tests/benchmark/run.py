@@ -85,8 +85,8 @@ def built(name: str, *given: str) -> str:
 
 def programs() -> Tuple[str, str]:
     """The program that makes the calls, linked with the library and with plain C."""
-    subprocess.run(["rt", "staticlib", "boundary"], cwd=ROOT, check=True, stdout=subprocess.DEVNULL)
-    library = built("bench_library", "-DPREFIX=kiln_", str(BUILT / "libboundary.a"))
+    subprocess.run(["rt", "staticlib", "kiln"], cwd=ROOT, check=True, stdout=subprocess.DEVNULL)
+    library = built("bench_library", "-DPREFIX=kiln_", str(BUILT / "libkiln.a"))
     return library, built("bench_plain", *PLAIN)
 
 

@@ -23,17 +23,17 @@ WATTS_BEFORE = 0xFFF2_3456_789A_BCDE
 
 def archive() -> Path:
     """The compiled library; it is proved and compiled where its sources are newer."""
-    made = ROOT / "target/staticlib/libboundary.a"
+    made = ROOT / "target/staticlib/libkiln.a"
     newest = max(one.stat().st_mtime for one in (ROOT / "crates").rglob("*"))
     if not made.exists() or made.stat().st_mtime < newest:
-        subprocess.run(["rt", "staticlib", "boundary"], cwd=ROOT, check=True, stdout=subprocess.DEVNULL)
+        subprocess.run(["rt", "staticlib", "kiln"], cwd=ROOT, check=True, stdout=subprocess.DEVNULL)
     return made
 
 
 def shared() -> ctypes.CDLL:
     """The compiled library as a shared one."""
     with tempfile.TemporaryDirectory() as room:
-        linked = f"{room}/libboundary.so"
+        linked = f"{room}/libkiln.so"
         whole = ["-Wl,--whole-archive", str(archive()), "-Wl,--no-whole-archive"]
         subprocess.run(["gcc", "-shared", "-o", linked, *whole], check=True)
         return ctypes.CDLL(linked)

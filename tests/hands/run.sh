@@ -13,11 +13,11 @@ for tool in python3 gcc g++ nm cargo; do
   fi
 done
 
-archive=target/staticlib/libboundary.a
+archive=target/staticlib/libkiln.a
 room=target/hands
 mkdir -p "$room"
 if [ ! -f "$archive" ] || [ -n "$(find crates -newer "$archive" -type f -print -quit)" ]; then
-  rt staticlib boundary >"$room/staticlib.log" 2>&1 || { cat "$room/staticlib.log"; exit 1; }
+  rt staticlib kiln >"$room/staticlib.log" 2>&1 || { cat "$room/staticlib.log"; exit 1; }
 fi
 
 c=(gcc -O2 -std=c11 -Wall -Wextra -Werror -Iinclude)

@@ -81,9 +81,9 @@ def incomplete(text: str) -> List[str]:
               for entry, lines in parts[part].items() for line in due if not ENTRY.search(lines.get(line, ""))]
     told = {int(entry.split(":")[0]) for entry in parts["Refusal numbers"]}
     faults += [f"refusal {number}: not in the map" for number in REFUSALS if number not in told]
-    boundary = (ROOT / "crates/boundary/src/lib.rt").read_text(encoding="utf-8")
+    linked = (ROOT / "crates/kiln/src/lib.rt").read_text(encoding="utf-8")
     promised = "".join(lines["promise"] for lines in parts["Calls"].values())
-    return faults + [f"{name}: not among the calls" for name in re.findall(r"\bfn (kiln_\w+)", boundary)
+    return faults + [f"{name}: not among the calls" for name in re.findall(r"\bfn (kiln_\w+)", linked)
                      if f"#{name}`" not in promised]
 
 

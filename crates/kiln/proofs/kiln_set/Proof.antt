@@ -3,10 +3,10 @@ use mir.Syntax.{w64}
 use mir.ValLaws.{toZ-ofZ}
 use Rattle.surface.specs.Calls.{setOutcome}
 use Rattle.answers.specs.Answers.{outcomeAnswer}
-use Rattle.boundary.proofs.CodeLaws.{code-done, code-refused}
+use Rattle.kiln.proofs.CodeLaws.{code-done, code-refused}
 use borrow.Author.Needs.{needs}
-use Rattle.boundary.proofs.kiln_set.Statement.{statement}
-use Rattle.boundary.proofs.kiln_set.Tie as tie
+use Rattle.kiln.proofs.kiln_set.Statement.{statement}
+use Rattle.kiln.proofs.kiln_set.Tie as tie
 
 set-requires : tie.Need-set-requires
 set-requires c κs = search needs

@@ -3,10 +3,10 @@ use lib.IntN.{ℤ}
 use Rattle.surface.specs.Calls.{Answer, exactOutcome}
 use Rattle.surface.specs.FloatReading.{FloatMeets}
 use Rattle.answers.specs.Answers.{wattsAnswer}
-use Rattle.boundary.proofs.CodeLaws.{watts-given, watts-refused}
+use Rattle.kiln.proofs.CodeLaws.{watts-given, watts-refused}
 use borrow.Author.Needs.{needs}
-use Rattle.boundary.proofs.kiln_watts.Statement.{statement}
-use Rattle.boundary.proofs.kiln_watts.Tie as tie
+use Rattle.kiln.proofs.kiln_watts.Statement.{statement}
+use Rattle.kiln.proofs.kiln_watts.Tie as tie
 
 watts-requires : tie.Need-watts-requires
 watts-requires c κs = search needs

@@ -1,9 +1,9 @@
 use mathlib.Core.Path.{sym, ap, _∙_}
 use Rattle.answers.specs.Answers.{fileAnswer}
-use Rattle.boundary.proofs.CodeLaws.{file-given, file-refused}
+use Rattle.kiln.proofs.CodeLaws.{file-given, file-refused}
 use borrow.Author.Needs.{needs}
-use Rattle.boundary.proofs.kiln_read_file.Statement.{statement}
-use Rattle.boundary.proofs.kiln_read_file.Tie as tie
+use Rattle.kiln.proofs.kiln_read_file.Statement.{statement}
+use Rattle.kiln.proofs.kiln_read_file.Tie as tie
 
 read-file-requires : tie.Need-read-file-requires
 read-file-requires c κs = search needs

@@ -1,9 +1,9 @@
 use mathlib.Core.Path.{sym, ap, _∙_}
 use Rattle.answers.specs.Answers.{leastAnswer}
-use Rattle.boundary.proofs.CodeLaws.{told-level, told-refused}
+use Rattle.kiln.proofs.CodeLaws.{told-level, told-refused}
 use borrow.Author.Needs.{needs}
-use Rattle.boundary.proofs.kiln_least_level.Statement.{statement}
-use Rattle.boundary.proofs.kiln_least_level.Tie as tie
+use Rattle.kiln.proofs.kiln_least_level.Statement.{statement}
+use Rattle.kiln.proofs.kiln_least_level.Tie as tie
 
 least-level-requires : tie.Need-least-level-requires
 least-level-requires c κs = search needs

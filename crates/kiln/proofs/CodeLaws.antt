@@ -12,7 +12,7 @@ use Rattle.surface.specs.TableFile.{FileResult}
 use Rattle.answers.specs.Answers.{lengthAnswer}
 use Rattle.answers.specs.declared.Length.{Length}
 use Rattle.answers.specs.declared.Length.the-variants.{Bytes, Refused}
-use Rattle.boundary.specs.Codes.{codeOf, NumberTold, LeastTold, WattsAfter, FileTold}
+use Rattle.kiln.specs.Codes.{codeOf, NumberTold, LeastTold, WattsAfter, FileTold}
 
 pub told-level : {o : Answer LeastLevel} (l v a b : ℕ) → gives (record { level = l; visited = v }) ≡ o
     → LeastTold o 0 a l b v

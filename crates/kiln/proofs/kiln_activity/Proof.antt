@@ -1,9 +1,9 @@
 use mathlib.Core.Path.{sym, ap, _∙_}
 use Rattle.answers.specs.Answers.{outcomeAnswer}
-use Rattle.boundary.proofs.CodeLaws.{code-done, code-refused}
+use Rattle.kiln.proofs.CodeLaws.{code-done, code-refused}
 use borrow.Author.Needs.{needs}
-use Rattle.boundary.proofs.kiln_activity.Statement.{statement}
-use Rattle.boundary.proofs.kiln_activity.Tie as tie
+use Rattle.kiln.proofs.kiln_activity.Statement.{statement}
+use Rattle.kiln.proofs.kiln_activity.Tie as tie
 
 activity-of-requires : tie.Need-activity-of-requires
 activity-of-requires c κs = search needs

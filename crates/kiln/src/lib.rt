@@ -6,8 +6,8 @@ ghost use Rattle.surface.specs.Table.{tableCause};
 ghost use Rattle.surface.specs.Calls.{leastOutcome, activityOutcome, freshOutcome, insertOutcome, setOutcome};
 ghost use Rattle.surface.specs.Calls.{exactOutcome, displayOutcome, costOutcome};
 ghost use Rattle.surface.specs.TableFile.{fileOutcome};
-ghost use Rattle.boundary.specs.Codes.{codeOf, NumberTold, LeastTold, WattsAfter};
-ghost use Rattle.boundary.specs.Codes.{SliceWritten, TableWritten, FileWritten};
+ghost use Rattle.kiln.specs.Codes.{codeOf, NumberTold, LeastTold, WattsAfter};
+ghost use Rattle.kiln.specs.Codes.{SliceWritten, TableWritten, FileWritten};
 
 // The least level under a box: `level` receives it, `visited` the number of tree nodes visited.
 #[no_mangle]

@@ -1,9 +1,9 @@
 use mathlib.Core.Path.{sym, ap, _∙_}
 use Rattle.answers.specs.Answers.{exactAnswer}
-use Rattle.boundary.proofs.CodeLaws.{signed-given, number-refused}
+use Rattle.kiln.proofs.CodeLaws.{signed-given, number-refused}
 use borrow.Author.Needs.{needs, sfits-of}
-use Rattle.boundary.proofs.kiln_exact.Statement.{statement}
-use Rattle.boundary.proofs.kiln_exact.Tie as tie
+use Rattle.kiln.proofs.kiln_exact.Statement.{statement}
+use Rattle.kiln.proofs.kiln_exact.Tie as tie
 
 exact-requires : tie.Need-exact-requires
 exact-requires c κs = search needs

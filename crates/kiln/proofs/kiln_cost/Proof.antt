@@ -1,9 +1,9 @@
 use mathlib.Core.Path.{sym, ap, _∙_}
 use Rattle.answers.specs.Answers.{costAnswer}
-use Rattle.boundary.proofs.CodeLaws.{number-given, number-refused}
+use Rattle.kiln.proofs.CodeLaws.{number-given, number-refused}
 use borrow.Author.Needs.{needs}
-use Rattle.boundary.proofs.kiln_cost.Statement.{statement}
-use Rattle.boundary.proofs.kiln_cost.Tie as tie
+use Rattle.kiln.proofs.kiln_cost.Statement.{statement}
+use Rattle.kiln.proofs.kiln_cost.Tie as tie
 
 cost-requires : tie.Need-cost-requires
 cost-requires c κs = search needs

@@ -1,12 +1,10 @@
-use mir.Syntax.{w64}
-use mir.ValLaws.{toZ-ofZ}
-use Rattle.boundary.proofs.CodeLaws.{table-given, table-refused}
+use Rattle.kiln.proofs.CodeLaws.{table-given, table-refused}
 use borrow.Author.Needs.{needs}
-use Rattle.boundary.proofs.kiln_fresh.Statement.{statement}
-use Rattle.boundary.proofs.kiln_fresh.Tie as tie
+use Rattle.kiln.proofs.kiln_insert.Statement.{statement}
+use Rattle.kiln.proofs.kiln_insert.Tie as tie
 
-fresh-requires : tie.Need-fresh-requires
-fresh-requires c κs = search needs
+insert-requires : tie.Need-insert-requires
+insert-requires c κs = search needs
 
 enum-known-r : tie.Need-enum-known-r
 enum-known-r c = search needs
@@ -22,10 +20,9 @@ same-length-2 c = search needs
 
 returns : tie.Need-returns
 returns c =
-    let s = c .before .before .before .before .before .before .before .before .before .before in
+    let s = c .before .before .before .before .before .before .before .before .before .before .before in
     table-given (c .before .r .given .0 .0) (s .args .tree-length .now) (c .before .r .given .1)
-    (rw (toZ-ofZ w64 (s .args .number) (s .fits .number)) at
-    (c .before .before .before .before .before .before .fresh .ensures))
+    (c .before .before .before .before .before .before .insert .ensures)
 
 same-length-3 : tie.Need-same-length-3
 same-length-3 c = search needs
@@ -35,16 +32,15 @@ same-length-4 c = search needs
 
 returns-2 : tie.Need-returns-2
 returns-2 c =
-    let s = c .before .before .before .before .before .before .before .before .before .before in
+    let s = c .before .before .before .before .before .before .before .before .before .before .before in
     table-refused (c .before .r2 .given .0 .0) (s .args .tree-length .now) (c .before .r2 .given .1)
-    (rw (toZ-ofZ w64 (s .args .number) (s .fits .number)) at
-    (c .before .before .before .before .before .before .fresh .ensures))
+    (c .before .before .before .before .before .before .insert .ensures)
 
-pub kiln-fresh-spec : {M : Type 1} → statement M
-kiln-fresh-spec =
+pub kiln-insert-spec : {M : Type 1} → statement M
+kiln-insert-spec =
     tie.close
     (tie.spec
-    fresh-requires
+    insert-requires
     enum-known-r
     enum-known-r-2
     same-length
