@@ -1,4 +1,5 @@
-"""Runs the corner program on sample, generated and damaged files, with expected output made by the evaluator.
+"""Runs the corner program on sample, generated and damaged files, with expected output made by the evaluator; and
+holds the refined sample table to the unrefined one.
 
 Run as: python3 tests/corners/run.py
 """
@@ -12,9 +13,10 @@ from typing import List
 
 sys.dont_write_bytecode = True
 ROOT = Path(__file__).resolve().parents[2]
-sys.path.insert(0, str(ROOT / "tests/evaluator"))
+sys.path[:0] = [str(ROOT / "tests" / part) for part in ("evaluator", "differential")]
 
 import calls
+import refined_copy
 import samples
 import tablefile
 from make_tables import TABLES
@@ -66,6 +68,12 @@ def main() -> int:
         if got != want:
             faults += 1
             print(f"file {at} of {len(file)} bytes: prints {got[:5]}, should print {want[:5]}")
+    for fault in refined_copy.faults():
+        faults += 1
+        print(fault)
+    if printed(TABLES["kiln-refined-near-top-heat"]) != printed(TABLES["kiln-unrefined"]):
+        faults += 1
+        print("refining moved whole watts at a corner")
     print(f"corners: {len(files)} files, {faults} faults")
     return 1 if faults else 0
 
