@@ -1,5 +1,5 @@
-"""Runs the corner program on sample, generated and damaged files, with expected output made by the evaluator; and
-holds the refined sample table to the unrefined one.
+"""Runs the corner program on sample, generated and damaged files, with expected output made by the evaluator; holds
+the refined sample table to the unrefined one, and the figures told in the pages to the library.
 
 Run as: python3 tests/corners/run.py
 """
@@ -19,6 +19,7 @@ import calls
 import refined_copy
 import samples
 import tablefile
+import told_in_pages
 from make_tables import TABLES
 
 PROGRAM = ROOT / "target/bin/corners"
@@ -68,7 +69,7 @@ def main() -> int:
         if got != want:
             faults += 1
             print(f"file {at} of {len(file)} bytes: prints {got[:5]}, should print {want[:5]}")
-    for fault in refined_copy.faults():
+    for fault in (*refined_copy.faults(), *told_in_pages.faults()):
         faults += 1
         print(fault)
     if printed(TABLES["kiln-refined-near-top-heat"]) != printed(TABLES["kiln-unrefined"]):
