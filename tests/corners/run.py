@@ -35,6 +35,13 @@ def printed(file: bytes) -> List[str]:
     return run.stdout.decode().split("\n")
 
 
+def printed_without_input() -> List[bytes]:
+    """What the program prints where every read fails: standard input closed, and a directory as standard input."""
+    runs = [subprocess.run(["sh", "-c", f'exec "$0" {told}', str(PROGRAM)], capture_output=True, check=True)
+            for told in ("<&-", "</")]
+    return [run.stdout for run in runs]
+
+
 def file_of(t: samples.Table) -> bytes:
     return tablefile.write_file(t.w, t.h, t.tree, t.coefficients)
 
@@ -69,6 +76,9 @@ def main() -> int:
         if got != want:
             faults += 1
             print(f"file {at} of {len(file)} bytes: prints {got[:5]}, should print {want[:5]}")
+    if printed_without_input() != [b"refused 12\n"] * 2:
+        faults += 1
+        print(f"with no input the program prints {printed_without_input()}")
     for fault in (*refined_copy.faults(), *told_in_pages.faults()):
         faults += 1
         print(fault)
