@@ -1,4 +1,4 @@
-"""Writes the sample tables in tables/ with the evaluator.
+"""Writes the sample tables in tables/: the evaluator fits and writes them, and the compiled library refines one.
 
 Run as: python3 tests/corners/make_tables.py
 """
@@ -6,23 +6,25 @@ from __future__ import annotations
 
 import sys
 from pathlib import Path
-from typing import Callable, Dict, List, Tuple
+from typing import Callable, Dict, Sequence, Tuple
 
 sys.dont_write_bytecode = True
 ROOT = Path(__file__).resolve().parents[2]
-sys.path.insert(0, str(ROOT / "tests/evaluator"))
+sys.path[:0] = [str(ROOT / "tests" / part) for part in ("evaluator", "differential")]
 
 import calls
 import tablefile
 import tree as quadtree
+from library import Inside, Library, numbers, octets, shared
 from surface import LEVELS, Box
 
 Watts = Callable[[float, float], float]
+Boxes = Sequence[Tuple[Box, int]]
 FLAT = tuple((0,) * 32 for _ in range(32))
 
 
-def table(w: int, h: int, boxes: List[Tuple[Box, int]], watts: Watts) -> bytes:
-    """The file of a table refined in the boxes, whose coefficients are the watts in the middle of each support."""
+def fitted(w: int, h: int, boxes: Boxes, watts: Watts) -> bytes:
+    """The file of a table with these regions, whose coefficients are the watts in the middle of each support."""
     levels = FLAT
     for box, level in boxes:
         levels = quadtree.raised(levels, box, level)
@@ -50,12 +52,27 @@ def bench(u: float, v: float) -> float:
     return 1_000 * u
 
 
+def refined(lib: Library, file: bytes, boxes: Boxes) -> bytes:
+    """The file of a table after the library's insertion of each box, and nothing else."""
+    w, h, tree, coefficients = tablefile.judge(file)
+    for box, level in boxes:
+        tree_out, numbers_out = octets([0] * quadtree.GREATEST_TREE), numbers([0] * len(coefficients))
+        got = lib.insert(w, h, octets(tree), numbers(coefficients), box, level, tree_out, numbers_out)
+        if got.cause:
+            raise ValueError(f"the insertion of {box} is refused with {got.cause}")
+        tree, coefficients = tree_out.values()[: got.said()[1]], numbers_out.values()
+    return tablefile.write_file(w, h, tree, coefficients)
+
+
+NEAR_TOP_HEAT: Boxes = (((20, 0, 32, 16), 1), ((25, 0, 32, 16), 2), ((26, 4, 30, 12), 3))
+UNREFINED = fitted(8, 4, (), kiln)
+LIBRARY = Library(Inside(shared(), "kiln_"))
 TABLES: Dict[str, bytes] = {
-    "bench-s": table(1, 1, [], bench),
-    "bench-s-level-1": table(1, 1, [((0, 0, 4, 4), 1)], bench),
-    "kiln-unrefined": table(8, 4, [], kiln),
-    "kiln-refined-near-top-heat": table(
-        8, 4, [((20, 0, 32, 16), 1), ((25, 0, 32, 16), 2), ((26, 4, 30, 12), 3)], kiln),
+    "bench-s": fitted(1, 1, (), bench),
+    "bench-s-level-1": fitted(1, 1, (((0, 0, 4, 4), 1),), bench),
+    "kiln-unrefined": UNREFINED,
+    "kiln-refined-near-top-heat": refined(LIBRARY, UNREFINED, NEAR_TOP_HEAT),
+    "kiln-fitted-near-top-heat": fitted(8, 4, NEAR_TOP_HEAT, kiln),
 }
 
 

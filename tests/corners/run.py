@@ -1,4 +1,5 @@
-"""Runs the corner program on sample, generated and damaged files, with expected output made by the evaluator.
+"""Runs the corner program on sample, generated and damaged files, with expected output made by the evaluator; holds
+the refined sample table to the unrefined one, and the figures told in the pages to the library.
 
 Run as: python3 tests/corners/run.py
 """
@@ -12,11 +13,13 @@ from typing import List
 
 sys.dont_write_bytecode = True
 ROOT = Path(__file__).resolve().parents[2]
-sys.path.insert(0, str(ROOT / "tests/evaluator"))
+sys.path[:0] = [str(ROOT / "tests" / part) for part in ("evaluator", "differential")]
 
 import calls
+import refined_copy
 import samples
 import tablefile
+import told_in_pages
 from make_tables import TABLES
 
 PROGRAM = ROOT / "target/bin/corners"
@@ -30,6 +33,13 @@ def build() -> None:
 def printed(file: bytes) -> List[str]:
     run = subprocess.run([str(PROGRAM)], input=file, capture_output=True, check=True)
     return run.stdout.decode().split("\n")
+
+
+def printed_without_input() -> List[bytes]:
+    """What the program prints where every read fails: standard input closed, and a directory as standard input."""
+    runs = [subprocess.run(["sh", "-c", f'exec "$0" {told}', str(PROGRAM)], capture_output=True, check=True)
+            for told in ("<&-", "</")]
+    return [run.stdout for run in runs]
 
 
 def file_of(t: samples.Table) -> bytes:
@@ -66,6 +76,15 @@ def main() -> int:
         if got != want:
             faults += 1
             print(f"file {at} of {len(file)} bytes: prints {got[:5]}, should print {want[:5]}")
+    if printed_without_input() != [b"refused 12\n"] * 2:
+        faults += 1
+        print(f"with no input the program prints {printed_without_input()}")
+    for fault in (*refined_copy.faults(), *told_in_pages.faults()):
+        faults += 1
+        print(fault)
+    if printed(TABLES["kiln-refined-near-top-heat"]) != printed(TABLES["kiln-unrefined"]):
+        faults += 1
+        print("refining moved whole watts at a corner")
     print(f"corners: {len(files)} files, {faults} faults")
     return 1 if faults else 0
 

@@ -1,0 +1,79 @@
+"""That the worked figures in README.md and docs/WHY.md are what the compiled library gives."""
+from __future__ import annotations
+
+from typing import Iterator, NamedTuple, Tuple
+
+import tablefile
+from library import numbers, octets
+from make_tables import LIBRARY, ROOT, TABLES
+from surface import D, total_places
+
+TARIFF, IN_CENTS = 2_950, 30
+REFINED = "kiln-refined-near-top-heat"
+
+
+class Figures(NamedTuple):
+    """What the library gives at a point; the cost at the tariff, and at the tariff entered in cents."""
+
+    exact: int
+    shown: int
+    cost: int
+    cost_in_cents: int
+
+
+def figures(table: tablefile.Content, u: int, v: int) -> Figures:
+    w, h, tree, values = table.w, table.h, octets(table.tree), numbers(table.coefficients)
+    answers = [LIBRARY.exact(w, h, tree, values, u, v), LIBRARY.display(w, h, tree, values, u, v)]
+    answers += [LIBRARY.cost(w, h, tree, values, u, v, tariff) for tariff in (TARIFF, IN_CENTS)]
+    return Figures(*(answer.said()[1] for answer in answers))
+
+
+def sloping(columns: Tuple[int, int, int, int]) -> tablefile.Content:
+    """An unrefined table of 1 by 1 with these columns, in all rows."""
+    return tablefile.Content(1, 1, [0], list(columns) * 4 + [0] * (total_places(1, 1) - 16))
+
+
+def damaged() -> Tuple[int, int]:
+    """The bits of the refined sample file, and how many of them turned over alone leave a file that loads."""
+    file, loaded = TABLES[REFINED], 0
+    tree_out, numbers_out = octets([0] * 1_365), numbers([0] * total_places(file[3], file[4]))
+    for bit in range(8 * len(file)):
+        changed = bytearray(file)
+        changed[bit // 8] ^= 1 << bit % 8
+        loaded += LIBRARY.read_file(octets(changed), tree_out, numbers_out).cause == 0
+    return 8 * len(file), loaded
+
+
+def told() -> Iterator[Tuple[str, str]]:
+    """Pages, each with a sentence that it must have."""
+    why = "docs/WHY.md"
+    plain, refined, fitted, bench = (tablefile.judge(TABLES[name]) for name in (
+        "kiln-unrefined", REFINED, "kiln-fitted-near-top-heat", "bench-s"))
+    at, there = figures(plain, 900, 200), figures(plain, 900, 201)
+    yield "README.md", f"prints `{at.shown} watts, {at.cost} hundredths of a cent an hour`"
+    four, below, half = figures(sloping((4,) * 4), 0, 0), *(figures(sloping((-1, 0, 1, 2)), u, 0) for u in (63, 64))
+    yield why, f"| 4 W | {four.shown} W | 2,950 | 4 × 2,950 / 1,000 = 11.8, so {four.cost}:"
+    yield why, f"| 4 W | {four.shown} W | 30, that is cents | 0.12, so {four.cost_in_cents} |"
+    yield why, f"| 0.49 W ({below.exact * 128 // D}/128) | {below.shown} W | 2,950 | {below.cost} |"
+    yield why, f"| {half.exact / D} W | {half.shown} W | 2,950 | 2.95, so {half.cost}:"
+    none, minus = (figures(sloping((watts,) * 4), 0, 0) for watts in (0, -3))
+    yield why, f"| 0 W, or −3 W | {none.shown} W, −{-minus.shown} W | any | {none.cost + minus.cost} |"
+    yield why, f"| 4,013 W | {at.shown:,} W | 2,950 | {at.cost:,}: {at.cost / 100} cents |"
+    yield why, f"| 4,013 W | {at.shown:,} W | 30, that is cents | {at.cost_in_cents}: 1.20 cents |"
+    yield why, f"at U 900 it is {at.shown:,} W at V 200 and {there.shown:,} W one step further"
+    for same in (at, figures(refined, 900, 200)):
+        yield why, f"the unrefined sample table and its refined copy both give {same.exact}/{D}"
+    yield why, f"the fitted one gives {figures(fitted, 900, 200).shown:,} W"
+    middle = figures(bench, 8, 0)
+    halves = 2 * middle.exact // D if 2 * middle.exact % D == 0 else -1
+    yield why, (f"In `bench-s.table` at 8 0 the exact watts are {halves // 2} {halves % 2}/2, and the display shows "
+                f"{middle.shown}")
+    bits, loaded = damaged()
+    yield why, (f"`{REFINED}.table` has {bits:,} bits; with a single one turned over, it is refused in "
+                f"{bits - loaded:,} cases, and in the other {loaded:,} it loads")
+
+
+def faults() -> Iterator[str]:
+    for name, sentence in told():
+        if sentence not in " ".join((ROOT / name).read_text(encoding="utf-8").split()):
+            yield f"{name} does not say: {sentence}"
