@@ -28,7 +28,8 @@
 #![deny(unsafe_code)]
 #![warn(missing_docs)]
 
-// Each of ffi, refusal, sizes, place, table and readings uses only those before it.
+// Each of ffi, refusal, sizes, place, table, readings and around uses only those before it.
+mod around;
 mod ffi;
 mod place;
 mod readings;
@@ -36,6 +37,7 @@ mod refusal;
 mod sizes;
 mod table;
 
+pub use around::ActiveFunction;
 pub use place::{Point, QuarterBox};
 pub use refusal::Refusal;
 pub use sizes::{level_places, place_of, places, DENOMINATOR, TREE_BYTES};
