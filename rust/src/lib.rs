@@ -6,9 +6,9 @@
 //! refusal; `include/kiln.h` says what each number means.
 //!
 //! ```
-//! use kiln::{Point, QuarterBox, Refusal, Table};
+//! use kiln::{Point, QuarterBox, Table};
 //!
-//! fn main() -> Result<(), Refusal> {
+//! fn main() -> Result<(), Box<dyn std::error::Error>> {
 //!     let table = Table::fresh(8, 4, 1_500)?; // or Table::from_file(&std::fs::read(path)?)?
 //!     let finer = table.insert(QuarterBox::new(28, 4, 32, 8), 3)?;
 //!     let point = Point::new(900, 200); // in steps of 1/128 cell
