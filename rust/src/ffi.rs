@@ -1,4 +1,5 @@
-//! The calls as the archive has them, and a safe function over each. All unsafe code of the crate is here.
+//! The calls as the archive has them, and a safe function over each. All unsafe code of the crate is here, and nothing
+//! here knows the crate's other files: slices and numbers go in, numbers or the number of a refusal come out.
 //!
 //! What the library promises of each call, for every input: it ends; it reads no more than the slices that it is lent,
 //! each a pointer and a length in elements; it writes no more than the slices and values that are lent for writing; it
@@ -9,9 +10,7 @@
 //! that is in use. So each call below is sound whatever the numbers are. None depends on a table being acceptable.
 #![allow(unsafe_code)]
 
-use crate::place::{Point, QuarterBox};
-use crate::refusal::Refusal;
-use crate::table::{Least, Table};
+use std::num::NonZeroU8;
 
 extern "C" {
     fn kiln_table_cause(
@@ -59,162 +58,125 @@ extern "C" {
     ) -> u8;
 }
 
-/// What was given, unless the number that a call returned is a refusal's.
-fn unless_refused<T>(number: u8, given: T) -> Result<T, Refusal> {
-    match Refusal::of(number) {
+/// What a call gives, or the number of its refusal.
+pub type Answer<T> = Result<T, NonZeroU8>;
+
+/// What was given, unless the number that a call returned is a refusal's. Later libraries may have any number.
+fn unless_refused<T>(number: u8, given: T) -> Answer<T> {
+    match NonZeroU8::new(number) {
         Some(refusal) => Err(refusal),
-        None if number == 0 => Ok(given),
-        None => panic!("refusal {number} of a library that is newer than this crate"),
+        None => Ok(given),
     }
 }
 
-pub fn table_cause(w: usize, h: usize, tree: &[u8], numbers: &[i64]) -> Result<(), Refusal> {
+pub fn table_cause([w, h]: [usize; 2], tree: &[u8], numbers: &[i64]) -> Answer<()> {
     // SAFETY: reads two slices and writes nothing.
     let n = unsafe { kiln_table_cause(w, h, tree.as_ptr(), tree.len(), numbers.as_ptr(), numbers.len()) };
     unless_refused(n, ())
 }
 
-pub fn least_level(t: &Table, b: QuarterBox) -> Result<Least, Refusal> {
-    let mut least = Least { level: 0, visited: 0 };
-    // SAFETY: reads the tree's slice and writes two fields of a local value.
-    let n = unsafe {
-        kiln_least_level(
-            t.w,
-            t.h,
-            t.tree.as_ptr(),
-            t.tree.len(),
-            b.u0,
-            b.v0,
-            b.u1,
-            b.v1,
-            &mut least.level,
-            &mut least.visited,
-        )
-    };
-    unless_refused(n, least)
+/// The least level and the number of nodes visited.
+pub fn least_level([w, h]: [usize; 2], tree: &[u8], [u0, v0, u1, v1]: [usize; 4]) -> Answer<(u8, usize)> {
+    let (mut level, mut visited) = (0, 0);
+    // SAFETY: reads the tree's slice and writes two local values.
+    let n = unsafe { kiln_least_level(w, h, tree.as_ptr(), tree.len(), u0, v0, u1, v1, &mut level, &mut visited) };
+    unless_refused(n, (level, visited))
 }
 
-pub fn activity(t: &Table, level: usize, out: &mut [u8]) -> Result<(), Refusal> {
+pub fn activity([w, h]: [usize; 2], tree: &[u8], level: usize, out: &mut [u8]) -> Answer<()> {
     // SAFETY: reads the tree's slice and writes `out`, which is borrowed for writing and so apart from the tree.
-    let n = unsafe { kiln_activity(t.w, t.h, t.tree.as_ptr(), t.tree.len(), level, out.as_mut_ptr(), out.len()) };
+    let n = unsafe { kiln_activity(w, h, tree.as_ptr(), tree.len(), level, out.as_mut_ptr(), out.len()) };
     unless_refused(n, ())
 }
 
 /// The new tree's length.
-pub fn fresh(w: usize, h: usize, number: i64, tree: &mut [u8], numbers: &mut [i64]) -> Result<usize, Refusal> {
+pub fn fresh([w, h]: [usize; 2], number: i64, tree_out: &mut [u8], numbers_out: &mut [i64]) -> Answer<usize> {
     let mut length = 0;
+    let (tree_len, numbers_len) = (tree_out.len(), numbers_out.len());
     // SAFETY: writes two slices that are borrowed for writing, so apart from each other, and a local value.
     let n = unsafe {
-        kiln_fresh(w, h, number, tree.as_mut_ptr(), tree.len(), numbers.as_mut_ptr(), numbers.len(), &mut length)
+        kiln_fresh(w, h, number, tree_out.as_mut_ptr(), tree_len, numbers_out.as_mut_ptr(), numbers_len, &mut length)
     };
     unless_refused(n, length)
 }
 
 /// The new tree's length.
-pub fn insert(t: &Table, b: QuarterBox, level: usize, tree: &mut [u8], numbers: &mut [i64]) -> Result<usize, Refusal> {
+pub fn insert(
+    [w, h]: [usize; 2], tree: &[u8], numbers: &[i64], [u0, v0, u1, v1]: [usize; 4], level: usize, tree_out: &mut [u8],
+    numbers_out: &mut [i64],
+) -> Answer<usize> {
     let mut length = 0;
-    // SAFETY: reads a table that is borrowed for reading; writes two slices that are borrowed for writing, so apart
-    // from it and from each other, and a local value.
+    // SAFETY: reads two slices that are borrowed for reading; writes two that are borrowed for writing, so apart from
+    // those and from each other, and a local value.
     let n = unsafe {
         kiln_insert(
-            t.w,
-            t.h,
-            t.tree.as_ptr(),
-            t.tree.len(),
-            t.numbers.as_ptr(),
-            t.numbers.len(),
-            b.u0,
-            b.v0,
-            b.u1,
-            b.v1,
-            level,
-            tree.as_mut_ptr(),
+            w,
+            h,
+            tree.as_ptr(),
             tree.len(),
-            numbers.as_mut_ptr(),
+            numbers.as_ptr(),
             numbers.len(),
+            u0,
+            v0,
+            u1,
+            v1,
+            level,
+            tree_out.as_mut_ptr(),
+            tree_out.len(),
+            numbers_out.as_mut_ptr(),
+            numbers_out.len(),
             &mut length,
         )
     };
     unless_refused(n, length)
 }
 
-pub fn set(t: &mut Table, level: usize, i: i64, j: i64, number: i64) -> Result<(), Refusal> {
-    // SAFETY: the table is borrowed for writing; its tree and its coefficients are two vectors, so apart.
-    let n = unsafe {
-        kiln_set(t.w, t.h, t.tree.as_ptr(), t.tree.len(), t.numbers.as_mut_ptr(), t.numbers.len(), level, i, j, number)
-    };
+pub fn set(
+    [w, h]: [usize; 2], tree: &[u8], numbers: &mut [i64], level: usize, [i, j]: [i64; 2], number: i64,
+) -> Answer<()> {
+    // SAFETY: reads the tree's slice and writes the coefficients', which is borrowed for writing and so apart from it.
+    let n =
+        unsafe { kiln_set(w, h, tree.as_ptr(), tree.len(), numbers.as_mut_ptr(), numbers.len(), level, i, j, number) };
     unless_refused(n, ())
 }
 
-pub fn exact(t: &Table, p: Point) -> Result<i64, Refusal> {
+/// The numerator.
+pub fn exact([w, h]: [usize; 2], tree: &[u8], numbers: &[i64], [u, v]: [usize; 2]) -> Answer<i64> {
     let mut numerator = 0;
-    // SAFETY: reads the table's two slices and writes a local value.
-    let n = unsafe {
-        kiln_exact(
-            t.w,
-            t.h,
-            t.tree.as_ptr(),
-            t.tree.len(),
-            t.numbers.as_ptr(),
-            t.numbers.len(),
-            p.u,
-            p.v,
-            &mut numerator,
-        )
-    };
+    let (tree_len, numbers_len) = (tree.len(), numbers.len());
+    // SAFETY: reads two slices and writes a local value.
+    let n = unsafe { kiln_exact(w, h, tree.as_ptr(), tree_len, numbers.as_ptr(), numbers_len, u, v, &mut numerator) };
     unless_refused(n, numerator)
 }
 
-pub fn watts(t: &Table, p: Point) -> Result<f64, Refusal> {
+pub fn watts([w, h]: [usize; 2], tree: &[u8], numbers: &[i64], [u, v]: [usize; 2]) -> Answer<f64> {
     let mut watts = 0.0;
-    // SAFETY: reads the table's two slices and writes a local value.
-    let n = unsafe {
-        kiln_watts(t.w, t.h, t.tree.as_ptr(), t.tree.len(), t.numbers.as_ptr(), t.numbers.len(), p.u, p.v, &mut watts)
-    };
+    let (tree_len, numbers_len) = (tree.len(), numbers.len());
+    // SAFETY: reads two slices and writes a local value.
+    let n = unsafe { kiln_watts(w, h, tree.as_ptr(), tree_len, numbers.as_ptr(), numbers_len, u, v, &mut watts) };
     unless_refused(n, watts)
 }
 
-pub fn display(t: &Table, p: Point) -> Result<i64, Refusal> {
+/// The whole watts.
+pub fn display([w, h]: [usize; 2], tree: &[u8], numbers: &[i64], [u, v]: [usize; 2]) -> Answer<i64> {
     let mut watts = 0;
-    // SAFETY: reads the table's two slices and writes a local value.
-    let n = unsafe {
-        kiln_display(
-            t.w,
-            t.h,
-            t.tree.as_ptr(),
-            t.tree.len(),
-            t.numbers.as_ptr(),
-            t.numbers.len(),
-            p.u,
-            p.v,
-            &mut watts,
-        )
-    };
+    let (tree_len, numbers_len) = (tree.len(), numbers.len());
+    // SAFETY: reads two slices and writes a local value.
+    let n = unsafe { kiln_display(w, h, tree.as_ptr(), tree_len, numbers.as_ptr(), numbers_len, u, v, &mut watts) };
     unless_refused(n, watts)
 }
 
-pub fn cost(t: &Table, p: Point, tariff: usize) -> Result<usize, Refusal> {
+pub fn cost([w, h]: [usize; 2], tree: &[u8], numbers: &[i64], [u, v]: [usize; 2], tariff: usize) -> Answer<usize> {
     let mut cost = 0;
-    // SAFETY: reads the table's two slices and writes a local value.
-    let n = unsafe {
-        kiln_cost(
-            t.w,
-            t.h,
-            t.tree.as_ptr(),
-            t.tree.len(),
-            t.numbers.as_ptr(),
-            t.numbers.len(),
-            p.u,
-            p.v,
-            tariff,
-            &mut cost,
-        )
-    };
+    let (tree_len, numbers_len) = (tree.len(), numbers.len());
+    // SAFETY: reads two slices and writes a local value.
+    let n =
+        unsafe { kiln_cost(w, h, tree.as_ptr(), tree_len, numbers.as_ptr(), numbers_len, u, v, tariff, &mut cost) };
     unless_refused(n, cost)
 }
 
 /// The tree's length, W and H.
-pub fn read_file(file: &[u8], tree: &mut [u8], numbers: &mut [i64]) -> Result<(usize, usize, usize), Refusal> {
+pub fn read_file(file: &[u8], tree_out: &mut [u8], numbers_out: &mut [i64]) -> Answer<(usize, usize, usize)> {
     let (mut length, mut w, mut h) = (0, 0, 0);
     // SAFETY: reads the file's slice; writes two slices that are borrowed for writing, so apart from it and from each
     // other, and three local values.
@@ -222,14 +184,28 @@ pub fn read_file(file: &[u8], tree: &mut [u8], numbers: &mut [i64]) -> Result<(u
         kiln_read_file(
             file.as_ptr(),
             file.len(),
-            tree.as_mut_ptr(),
-            tree.len(),
-            numbers.as_mut_ptr(),
-            numbers.len(),
+            tree_out.as_mut_ptr(),
+            tree_out.len(),
+            numbers_out.as_mut_ptr(),
+            numbers_out.len(),
             &mut length,
             &mut w,
             &mut h,
         )
     };
     unless_refused(n, (length, w, h))
+}
+
+#[cfg(test)]
+mod tests {
+    use super::unless_refused;
+    use std::num::NonZeroU8;
+
+    #[test]
+    fn every_number_but_0_is_an_error_value() {
+        assert_eq!(unless_refused(0, 7), Ok(7));
+        for number in 1..=u8::MAX {
+            assert_eq!(unless_refused(number, 7).map_err(NonZeroU8::get), Err(number));
+        }
+    }
 }

@@ -6,67 +6,39 @@
 //! refusal; `include/kiln.h` says what each number means.
 //!
 //! ```
-//! use kiln::{Point, QuarterBox, Table, DENOMINATOR};
+//! use kiln::{Point, QuarterBox, Table};
 //!
-//! // Refining a table moves no figure.
-//! let file = std::fs::read("../tables/bench-s.table").unwrap();
-//! let table = Table::from_file(&file)?;
-//! let finer = table.insert(QuarterBox::new(0, 0, 4, 4), 1)?;
-//! assert_eq!(table.exact(Point::new(64, 5))?, 500 * DENOMINATOR);
-//! assert_eq!(finer.exact(Point::new(64, 5))?, 500 * DENOMINATOR);
-//! # Ok::<(), kiln::Refusal>(())
+//! fn main() -> Result<(), Box<dyn std::error::Error>> {
+//!     let table = Table::fresh(8, 4, 1_500)?; // or Table::from_file(&std::fs::read(path)?)?
+//!     let finer = table.insert(QuarterBox::new(28, 4, 32, 8), 3)?;
+//!     let point = Point::new(900, 200); // in steps of 1/128 cell
+//!     assert_eq!(finer.exact(point)?, table.exact(point)?); // refining moves no figure
+//!     println!("{} watts, {} hundredths of a cent an hour", finer.display(point)?, finer.cost(point, 2_950)?);
+//!     Ok(())
+//! }
 //! ```
+//!
+//! Where a call is refused, `main` shows its number and cause, as `Error: refused 6: point off the sheet`.
+//!
+//! # Linking
+//!
+//! The library is the archive `libkiln.a`, for x86-64, which `rt staticlib kiln` writes to `target/staticlib` in its
+//! repository. It is looked for there, beside this crate's folder, or in the folder that the environment variable
+//! `KILN_LIB_DIR` names to cargo, best as a full path. Documentation and `cargo check` do without it.
 #![deny(unsafe_code)]
 #![warn(missing_docs)]
 
+// Each of ffi, refusal, sizes, place, table, readings and around uses only those before it.
+mod around;
 mod ffi;
 mod place;
+mod readings;
 mod refusal;
+mod sizes;
 mod table;
 
+pub use around::ActiveFunction;
 pub use place::{Point, QuarterBox};
 pub use refusal::Refusal;
+pub use sizes::{level_places, place_of, places, DENOMINATOR, TREE_BYTES};
 pub use table::{Least, Table};
-
-/// D = 36 × 2^42: an exact reading of x watts has the numerator x × D.
-///
-/// ```
-/// assert_eq!(kiln::DENOMINATOR, 36 << 42);
-/// ```
-pub const DENOMINATOR: i64 = 158_329_674_399_744;
-
-/// No tree is longer, in bytes.
-///
-/// ```
-/// // Each of the 32 by 32 quarters a leaf, under five levels of splits.
-/// assert_eq!(kiln::TREE_BYTES, 1_024 + 256 + 64 + 16 + 4 + 1);
-/// ```
-pub const TREE_BYTES: usize = 1_365;
-
-/// The places of one level of a `w` by `h` sheet; 0 for a side that is not 1 to 8 or a level that is not 0 to 3.
-///
-/// ```
-/// use kiln::level_places;
-///
-/// assert_eq!([0, 1, 2, 3].map(|level| level_places(8, 8, level)), [121, 361, 1_225, 4_489]);
-/// assert_eq!(level_places(9, 8, 0), 0);
-/// assert_eq!(level_places(8, 8, 4), 0);
-/// ```
-pub fn level_places(w: usize, h: usize, level: usize) -> usize {
-    let sides = 1..=8;
-    if sides.contains(&w) && sides.contains(&h) && level <= 3 {
-        ((w << level) + 3) * ((h << level) + 3)
-    } else {
-        0
-    }
-}
-
-/// The places of a `w` by `h` sheet, the length of its coefficients; 0 for a side that is not 1 to 8.
-///
-/// ```
-/// assert_eq!(kiln::places(8, 8), 6_196);
-/// assert_eq!(kiln::places(0, 8), 0);
-/// ```
-pub fn places(w: usize, h: usize) -> usize {
-    (0..=3).map(|level| level_places(w, h, level)).sum()
-}

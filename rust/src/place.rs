@@ -30,6 +30,10 @@ impl Point {
     pub fn new(u: usize, v: usize) -> Point {
         Point { u, v }
     }
+
+    pub(crate) fn steps(self) -> [usize; 2] {
+        [self.u, self.v]
+    }
 }
 
 /// A box on the sheet: two corners in whole quarters of a level 0 cell's side, low corner first, u before v.
@@ -66,5 +70,9 @@ impl QuarterBox {
     /// ```
     pub fn new(u0: usize, v0: usize, u1: usize, v1: usize) -> QuarterBox {
         QuarterBox { u0, v0, u1, v1 }
+    }
+
+    pub(crate) fn corners(self) -> [usize; 4] {
+        [self.u0, self.v0, self.u1, self.v1]
     }
 }

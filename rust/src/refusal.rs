@@ -1,11 +1,14 @@
 //! Why a call was refused.
 use std::error::Error;
 use std::fmt;
+use std::num::NonZeroU8;
 
 macro_rules! refusals {
     ($($number:literal $name:ident $words:literal)*) => {
         /// Why a call was refused. Where several causes apply it is the one of the lowest number; a file is judged in
         /// byte order. Later versions of the library may have more.
+        ///
+        /// It shows its number and its words, also where `main` returns it.
         ///
         /// ```
         /// use kiln::{Refusal, Table};
@@ -13,18 +16,25 @@ macro_rules! refusals {
         /// let refusal = Table::fresh(9, 8, 0).unwrap_err();
         /// assert_eq!(refusal, Refusal::Side);
         /// assert_eq!(refusal.to_string(), "refused 1: a side of 0 or above 8");
+        /// assert_eq!(format!("Error: {:?}", refusal), "Error: refused 1: a side of 0 or above 8");
         /// // It is an error like any other.
         /// let error: Box<dyn std::error::Error> = refusal.into();
         /// assert!(error.source().is_none());
         /// ```
-        #[derive(Clone, Copy, Debug, PartialEq, Eq, Hash)]
+        #[derive(Clone, Copy, PartialEq, Eq, Hash)]
         #[non_exhaustive]
         pub enum Refusal {
-            $(#[doc = $words] $name = $number,)*
+            $(#[doc = $words] $name,)*
+            /// A refusal of a library newer than this crate, which has no name for it yet.
+            #[non_exhaustive]
+            Unknown {
+                /// Its number, none of those above.
+                number: u8,
+            },
         }
 
         impl Refusal {
-            /// The refusal of a number, `None` for 0 and for a number that no refusal has.
+            /// The refusal of a number that has a name here, `None` for 0 and for a number that has none.
             ///
             /// ```
             /// use kiln::Refusal;
@@ -41,6 +51,21 @@ macro_rules! refusals {
                 }
             }
 
+            /// The refusal number, 1 to 17, or whatever a newer library gave.
+            ///
+            /// ```
+            /// use kiln::Refusal;
+            ///
+            /// assert_eq!(Refusal::Side.number(), 1);
+            /// assert_eq!(Refusal::TreeOutputShort.number(), 17);
+            /// ```
+            pub fn number(self) -> u8 {
+                match self {
+                    $(Refusal::$name => $number,)*
+                    Refusal::Unknown { number } => number,
+                }
+            }
+
             /// The cause in words.
             ///
             /// ```
@@ -49,6 +74,7 @@ macro_rules! refusals {
             pub fn words(self) -> &'static str {
                 match self {
                     $(Refusal::$name => $words,)*
+                    Refusal::Unknown { .. } => "a cause that this version of the crate has no words for",
                 }
             }
         }
@@ -75,17 +101,20 @@ refusals! {
     17 TreeOutputShort "tree output shorter than the tree"
 }
 
-impl Refusal {
-    /// The refusal number, 1 to 17.
-    ///
-    /// ```
-    /// use kiln::Refusal;
-    ///
-    /// assert_eq!(Refusal::Side.number(), 1);
-    /// assert_eq!(Refusal::TreeOutputShort.number(), 17);
-    /// ```
-    pub fn number(self) -> u8 {
-        self as u8
+/// The refusal of any number that a call returned, [`Refusal::Unknown`] where it has no name here.
+///
+/// ```
+/// use kiln::Refusal;
+/// use std::num::NonZeroU8;
+///
+/// let refusal = |number| NonZeroU8::new(number).map(Refusal::from);
+/// assert_eq!(refusal(0), None);
+/// assert_eq!(refusal(12), Some(Refusal::FileEnds));
+/// assert!(matches!(refusal(200), Some(Refusal::Unknown { number: 200, .. })));
+/// ```
+impl From<NonZeroU8> for Refusal {
+    fn from(number: NonZeroU8) -> Refusal {
+        Refusal::of(number.get()).unwrap_or(Refusal::Unknown { number: number.get() })
     }
 }
 
@@ -95,4 +124,68 @@ impl fmt::Display for Refusal {
     }
 }
 
+/// The words of [`Display`](fmt::Display), since this is what is shown when `main` returns an error.
+impl fmt::Debug for Refusal {
+    fn fmt(&self, f: &mut fmt::Formatter<'_>) -> fmt::Result {
+        fmt::Display::fmt(self, f)
+    }
+}
+
 impl Error for Refusal {}
+
+#[cfg(test)]
+mod tests {
+    use super::Refusal;
+    use std::num::NonZeroU8;
+
+    // The first column of document 01's table of causes, in the order of its numbers.
+    const CAUSES: [&str; 17] = [
+        "a side of 0 or above 8",
+        "tree not of the form above",
+        "coefficient slice not of the total length",
+        "active coefficient past its limit",
+        "passive place not 0",
+        "point off the sheet",
+        "box with no area, or past the sheet",
+        "level not 1 to 3 (insert) or 0 to 3 (set, activity)",
+        "set: index out of range or function passive",
+        "set, fresh: number past its limit",
+        "tariff above 99,999",
+        "file ends inside a head or body",
+        "other tag than the one due",
+        "field length wrong",
+        "bytes after the last field",
+        "numbers or activity output not of the exact length",
+        "tree output shorter than the tree",
+    ];
+
+    fn of_any(number: u8) -> Refusal {
+        Refusal::from(NonZeroU8::new(number).unwrap())
+    }
+
+    #[test]
+    fn each_number_has_the_words_of_its_cause() {
+        for (number, words) in (1..).zip(CAUSES) {
+            // Away from document 01's text, "above" says nothing.
+            let words = words.replace("form above", "form of a region tree");
+            assert_eq!(Refusal::of(number).map(Refusal::words), Some(&words[..]));
+            assert_eq!(of_any(number).to_string(), format!("refused {number}: {words}"));
+            assert_eq!(format!("{:?}", of_any(number)), format!("refused {number}: {words}"));
+        }
+    }
+
+    #[test]
+    fn a_number_without_a_name_is_an_error_value() {
+        for number in 18..=u8::MAX {
+            let refusal = of_any(number);
+            assert_eq!(Refusal::of(number), None);
+            assert_eq!(refusal, Refusal::Unknown { number });
+            assert_eq!(refusal.number(), number);
+            let shown = format!("refused {number}: a cause that this version of the crate has no words for");
+            assert_eq!(refusal.to_string(), shown);
+            assert_eq!(format!("{refusal:?}"), shown);
+        }
+        let error: Box<dyn std::error::Error> = of_any(99).into();
+        assert_eq!(error.downcast_ref(), Some(&Refusal::Unknown { number: 99 }));
+    }
+}

@@ -1,7 +1,8 @@
-//! Tables, and the calls on them.
-use crate::place::{Point, QuarterBox};
+//! Tables: what makes, refines and changes one, and what it is made of.
+use crate::ffi;
+use crate::place::QuarterBox;
 use crate::refusal::Refusal;
-use crate::{ffi, level_places, places, TREE_BYTES};
+use crate::sizes::{level_places, places, TREE_BYTES};
 
 /// An acceptable table: a sheet, the tree of its regions and its coefficients, all owned.
 ///
@@ -24,23 +25,24 @@ use crate::{ffi, level_places, places, TREE_BYTES};
 /// ```
 #[derive(Clone, Debug, PartialEq, Eq)]
 pub struct Table {
-    pub(crate) w: usize,
-    pub(crate) h: usize,
-    pub(crate) tree: Vec<u8>,
-    pub(crate) numbers: Vec<i64>,
+    w: usize,
+    h: usize,
+    tree: Vec<u8>,
+    numbers: Vec<i64>,
 }
 
 /// The least level under a box, and the tree nodes that were visited for it.
 ///
 /// ```
-/// use kiln::{Least, QuarterBox, Table};
+/// use kiln::{QuarterBox, Table};
 ///
 /// // A tree of one leaf has one node to visit.
 /// let least = Table::fresh(1, 1, 0)?.least_level(QuarterBox::new(1, 1, 2, 2))?;
-/// assert_eq!(least, Least { level: 0, visited: 1 });
+/// assert_eq!((least.level, least.visited), (0, 1));
 /// # Ok::<(), kiln::Refusal>(())
 /// ```
 #[derive(Clone, Copy, Debug, PartialEq, Eq, Hash)]
+#[non_exhaustive]
 pub struct Least {
     /// The least level, 0 to 3.
     pub level: u8,
@@ -65,7 +67,7 @@ impl Table {
     /// ```
     pub fn fresh(w: usize, h: usize, number: i64) -> Result<Table, Refusal> {
         let (mut tree, mut numbers) = (vec![0; 1], vec![0; places(w, h)]);
-        let length = ffi::fresh(w, h, number, &mut tree, &mut numbers)?;
+        let length = ffi::fresh([w, h], number, &mut tree, &mut numbers)?;
         tree.truncate(length);
         Ok(Table { w, h, tree, numbers })
     }
@@ -79,7 +81,11 @@ impl Table {
     /// use kiln::{Point, Refusal, Table, DENOMINATOR};
     ///
     /// // Columns of -1,000, 0, 1,000 and 2,000 watts on a sheet of 1 by 1.
-    /// let mut file = std::fs::read("../tables/bench-s.table").unwrap();
+    /// let mut file = vec![1, 0, 2, 1, 1, 2, 0, 1, 0, 16, 0, 80];
+    /// for number in [-1_000_i64, 0, 1_000, 2_000].repeat(4) {
+    ///     file.extend(&number.to_be_bytes()[3..]);
+    /// }
+    /// file.extend([17, 0, 0, 18, 0, 0, 19, 0, 0]);
     /// let table = Table::from_file(&file)?;
     /// assert_eq!((table.width(), table.height(), table.tree()), (1, 1, &[0][..]));
     /// assert_eq!(table.exact(Point::new(64, 5))?, 500 * DENOMINATOR);
@@ -132,8 +138,12 @@ impl Table {
     /// assert_eq!(Table::from_parts(1, 1, &[0], &numbers), Err(Refusal::PassiveNotZero));
     /// ```
     pub fn from_parts(w: usize, h: usize, tree: &[u8], numbers: &[i64]) -> Result<Table, Refusal> {
-        ffi::table_cause(w, h, tree, numbers)?;
+        ffi::table_cause([w, h], tree, numbers)?;
         Ok(Table { w, h, tree: tree.to_vec(), numbers: numbers.to_vec() })
+    }
+
+    pub(crate) fn sheet(&self) -> [usize; 2] {
+        [self.w, self.h]
     }
 
     /// The sheet's width W in cells of level 0.
@@ -170,7 +180,7 @@ impl Table {
     }
 
     /// The coefficients, level 0 first, then 1, 2, 3; in a level j rises, within a row i rises. Those of level L are
-    /// in units of 1/64^L watt, and passive places hold 0.
+    /// in units of 1/64^L watt, and passive places hold 0. [`place_of`](crate::place_of) finds one.
     ///
     /// ```
     /// use kiln::{QuarterBox, Table};
@@ -214,7 +224,8 @@ impl Table {
     /// ```
     pub fn insert(&self, raised: QuarterBox, level: usize) -> Result<Table, Refusal> {
         let (mut tree, mut numbers) = (vec![0; TREE_BYTES], vec![0; self.numbers.len()]);
-        let length = ffi::insert(self, raised, level, &mut tree, &mut numbers)?;
+        let length =
+            ffi::insert(self.sheet(), &self.tree, &self.numbers, raised.corners(), level, &mut tree, &mut numbers)?;
         tree.truncate(length);
         Ok(Table { w: self.w, h: self.h, tree, numbers })
     }
@@ -247,86 +258,7 @@ impl Table {
     /// # Ok::<(), Refusal>(())
     /// ```
     pub fn set(&mut self, level: usize, i: i64, j: i64, number: i64) -> Result<(), Refusal> {
-        ffi::set(self, level, i, j, number)
-    }
-
-    /// The exact reading at a point, in watts, as a numerator over [`DENOMINATOR`](crate::DENOMINATOR).
-    ///
-    /// Refused: a point off the sheet.
-    ///
-    /// ```
-    /// use kiln::{places, Point, Refusal, Table, DENOMINATOR};
-    ///
-    /// let mut numbers = [-1_000, 0, 1_000, 2_000].repeat(4);
-    /// numbers.resize(places(1, 1), 0);
-    /// let table = Table::from_parts(1, 1, &[0], &numbers)?;
-    /// assert_eq!(table.exact(Point::new(64, 5))?, 79_164_837_199_872_000);
-    /// assert_eq!(table.exact(Point::new(128, 5))?, 1_000 * DENOMINATOR);
-    /// assert_eq!(table.exact(Point::new(129, 5)), Err(Refusal::Point));
-    /// # Ok::<(), Refusal>(())
-    /// ```
-    pub fn exact(&self, point: Point) -> Result<i64, Refusal> {
-        ffi::exact(self, point)
-    }
-
-    /// The reading at a point as an `f64`, within 2^-30 watt of the exact one.
-    ///
-    /// Refused: a point off the sheet.
-    ///
-    /// ```
-    /// use kiln::{places, Point, Refusal, Table};
-    ///
-    /// let mut numbers = [-1_000, 0, 1_000, 2_000].repeat(4);
-    /// numbers.resize(places(1, 1), 0);
-    /// let table = Table::from_parts(1, 1, &[0], &numbers)?;
-    /// let bound = 1.0 / f64::from(1 << 30);
-    /// assert!((table.watts(Point::new(64, 5))? - 500.0).abs() <= bound);
-    /// assert_eq!(table.watts(Point::new(64, 129)), Err(Refusal::Point));
-    /// # Ok::<(), Refusal>(())
-    /// ```
-    pub fn watts(&self, point: Point) -> Result<f64, Refusal> {
-        ffi::watts(self, point)
-    }
-
-    /// The figure for the display: the exact watts rounded to the nearest whole number, halves upward.
-    ///
-    /// Refused: a point off the sheet.
-    ///
-    /// ```
-    /// use kiln::{places, Point, Table};
-    ///
-    /// // Columns that rise by one: the watts rise from the second column's at u 0 to the third's at u 128.
-    /// let halfway = |first: i64| {
-    ///     let mut numbers = [first, first + 1, first + 2, first + 3].repeat(4);
-    ///     numbers.resize(places(1, 1), 0);
-    ///     Table::from_parts(1, 1, &[0], &numbers)?.display(Point::new(64, 0))
-    /// };
-    /// assert_eq!(halfway(-2)?, 0); // from -0.5
-    /// assert_eq!(halfway(-3)?, -1); // from -1.5
-    /// assert_eq!(halfway(-1)?, 1); // from 0.5
-    /// # Ok::<(), kiln::Refusal>(())
-    /// ```
-    pub fn display(&self, point: Point) -> Result<i64, Refusal> {
-        ffi::display(self, point)
-    }
-
-    /// The cost per hour in hundredths of a cent: the display's watts times the tariff (hundredths of a cent per kWh,
-    /// 0 to 99,999) over 1,000, nearest, halves upward; 0 for watts of 0 or less.
-    ///
-    /// Refused: a point off the sheet, a tariff above 99,999.
-    ///
-    /// ```
-    /// use kiln::{Point, Refusal, Table};
-    ///
-    /// let (table, point) = (Table::fresh(1, 1, 1)?, Point::new(0, 0));
-    /// assert_eq!(table.cost(point, 1_499)?, 1);
-    /// assert_eq!(table.cost(point, 1_500)?, 2);
-    /// assert_eq!(table.cost(point, 100_000), Err(Refusal::Tariff));
-    /// assert_eq!(Table::fresh(1, 1, -1)?.cost(point, 1_500)?, 0);
-    /// # Ok::<(), Refusal>(())
-    /// ```
-    pub fn cost(&self, point: Point, tariff: usize) -> Result<usize, Refusal> {
-        ffi::cost(self, point, tariff)
+        Ok(ffi::set(self.sheet(), &self.tree, &mut self.numbers, level, [i, j], number)?)
     }
 
     /// The least level under a box, with the number of tree nodes visited.
@@ -334,18 +266,21 @@ impl Table {
     /// Refused: a box with no area or past the sheet.
     ///
     /// ```
-    /// use kiln::{Least, QuarterBox, Refusal, Table};
+    /// use kiln::{QuarterBox, Refusal, Table};
     ///
     /// let raised = QuarterBox::new(0, 0, 4, 4);
     /// let one = Table::fresh(1, 1, 0)?.insert(raised, 1)?;
-    /// assert_eq!(one.least_level(raised)?, Least { level: 1, visited: 4 });
+    /// let least = one.least_level(raised)?;
+    /// assert_eq!((least.level, least.visited), (1, 4));
     /// assert_eq!(one.least_level(QuarterBox::new(0, 0, 5, 4)), Err(Refusal::QuarterBox));
     /// let two = Table::fresh(2, 1, 0)?.insert(raised, 1)?;
-    /// assert_eq!(two.least_level(QuarterBox::new(0, 0, 8, 4))?, Least { level: 0, visited: 5 });
+    /// let least = two.least_level(QuarterBox::new(0, 0, 8, 4))?;
+    /// assert_eq!((least.level, least.visited), (0, 5));
     /// # Ok::<(), Refusal>(())
     /// ```
     pub fn least_level(&self, under: QuarterBox) -> Result<Least, Refusal> {
-        ffi::least_level(self, under)
+        let (level, visited) = ffi::least_level(self.sheet(), &self.tree, under.corners())?;
+        Ok(Least { level, visited })
     }
 
     /// Which functions of a level are active, in the order of the coefficients.
@@ -366,7 +301,7 @@ impl Table {
     /// ```
     pub fn activity(&self, level: usize) -> Result<Vec<bool>, Refusal> {
         let mut out = vec![0; level_places(self.w, self.h, level)];
-        ffi::activity(self, level, &mut out)?;
+        ffi::activity(self.sheet(), &self.tree, level, &mut out)?;
         Ok(out.into_iter().map(|byte| byte == 1).collect())
     }
 }

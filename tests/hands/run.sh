@@ -55,13 +55,6 @@ for file in "${files[@]}"; do
   fi
 done
 
-log=$PWD/$room/cargo.log
-(cd rust && CARGO_TARGET_DIR=../target/cargo cargo test --offline --locked) >"$log" 2>&1 || { cat "$log"; exit 1; }
-doc_tests=$(sed -n '/Doc-tests/,$ s/^test result: ok\. \([0-9]*\) passed.*/\1/p' "$log")
-if [ "${doc_tests:-0}" -eq 0 ]; then
-  echo "hands: no doc test of the Rust crate ran" >&2
-  exit 1
-fi
+tests/hands/rust.sh
 
-echo "hands: $calls; $(wc -l <"$room/header.names") calls declared; example as expected on ${#files[@]} files;" \
-  "$doc_tests doc tests of the Rust crate passed"
+echo "hands: $calls; $(wc -l <"$room/header.names") calls declared; example as expected on ${#files[@]} files"

@@ -1,0 +1,86 @@
+//! What a table says at a point: watts and cost.
+use crate::ffi;
+use crate::place::Point;
+use crate::refusal::Refusal;
+use crate::table::Table;
+
+impl Table {
+    /// The exact reading at a point, in watts, as a numerator over [`DENOMINATOR`](crate::DENOMINATOR).
+    ///
+    /// Refused: a point off the sheet.
+    ///
+    /// ```
+    /// use kiln::{places, Point, Refusal, Table, DENOMINATOR};
+    ///
+    /// let mut numbers = [-1_000, 0, 1_000, 2_000].repeat(4);
+    /// numbers.resize(places(1, 1), 0);
+    /// let table = Table::from_parts(1, 1, &[0], &numbers)?;
+    /// assert_eq!(table.exact(Point::new(64, 5))?, 79_164_837_199_872_000);
+    /// assert_eq!(table.exact(Point::new(128, 5))?, 1_000 * DENOMINATOR);
+    /// assert_eq!(table.exact(Point::new(129, 5)), Err(Refusal::Point));
+    /// # Ok::<(), Refusal>(())
+    /// ```
+    pub fn exact(&self, point: Point) -> Result<i64, Refusal> {
+        Ok(ffi::exact(self.sheet(), self.tree(), self.numbers(), point.steps())?)
+    }
+
+    /// The reading at a point as an `f64`, within 2^-30 watt of the exact one.
+    ///
+    /// Refused: a point off the sheet.
+    ///
+    /// ```
+    /// use kiln::{places, Point, Refusal, Table};
+    ///
+    /// let mut numbers = [-1_000, 0, 1_000, 2_000].repeat(4);
+    /// numbers.resize(places(1, 1), 0);
+    /// let table = Table::from_parts(1, 1, &[0], &numbers)?;
+    /// let bound = 1.0 / f64::from(1 << 30);
+    /// assert!((table.watts(Point::new(64, 5))? - 500.0).abs() <= bound);
+    /// assert_eq!(table.watts(Point::new(64, 129)), Err(Refusal::Point));
+    /// # Ok::<(), Refusal>(())
+    /// ```
+    pub fn watts(&self, point: Point) -> Result<f64, Refusal> {
+        Ok(ffi::watts(self.sheet(), self.tree(), self.numbers(), point.steps())?)
+    }
+
+    /// The figure for the display: the exact watts rounded to the nearest whole number, halves upward.
+    ///
+    /// Refused: a point off the sheet.
+    ///
+    /// ```
+    /// use kiln::{places, Point, Table};
+    ///
+    /// // Columns that rise by one: the watts rise from the second column's at u 0 to the third's at u 128.
+    /// let halfway = |first: i64| {
+    ///     let mut numbers = [first, first + 1, first + 2, first + 3].repeat(4);
+    ///     numbers.resize(places(1, 1), 0);
+    ///     Table::from_parts(1, 1, &[0], &numbers)?.display(Point::new(64, 0))
+    /// };
+    /// assert_eq!(halfway(-2)?, 0); // from -0.5
+    /// assert_eq!(halfway(-3)?, -1); // from -1.5
+    /// assert_eq!(halfway(-1)?, 1); // from 0.5
+    /// # Ok::<(), kiln::Refusal>(())
+    /// ```
+    pub fn display(&self, point: Point) -> Result<i64, Refusal> {
+        Ok(ffi::display(self.sheet(), self.tree(), self.numbers(), point.steps())?)
+    }
+
+    /// The cost per hour in hundredths of a cent: the display's watts times the tariff (hundredths of a cent per kWh,
+    /// 0 to 99,999) over 1,000, nearest, halves upward; 0 for watts of 0 or less.
+    ///
+    /// Refused: a point off the sheet, a tariff above 99,999.
+    ///
+    /// ```
+    /// use kiln::{Point, Refusal, Table};
+    ///
+    /// let (table, point) = (Table::fresh(1, 1, 1)?, Point::new(0, 0));
+    /// assert_eq!(table.cost(point, 1_499)?, 1);
+    /// assert_eq!(table.cost(point, 1_500)?, 2);
+    /// assert_eq!(table.cost(point, 100_000), Err(Refusal::Tariff));
+    /// assert_eq!(Table::fresh(1, 1, -1)?.cost(point, 1_500)?, 0);
+    /// # Ok::<(), Refusal>(())
+    /// ```
+    pub fn cost(&self, point: Point, tariff: usize) -> Result<usize, Refusal> {
+        Ok(ffi::cost(self.sheet(), self.tree(), self.numbers(), point.steps(), tariff)?)
+    }
+}

@@ -1,0 +1,82 @@
+//! The library's fixed numbers, how long a table's slices are, and where in them a coefficient stands.
+
+/// D = 36 × 2^42: an exact reading of x watts has the numerator x × D.
+///
+/// ```
+/// assert_eq!(kiln::DENOMINATOR, 36 << 42);
+/// ```
+pub const DENOMINATOR: i64 = 158_329_674_399_744;
+
+/// No tree is longer, in bytes.
+///
+/// ```
+/// // Each of the 32 by 32 quarters a leaf, under five levels of splits.
+/// assert_eq!(kiln::TREE_BYTES, 1_024 + 256 + 64 + 16 + 4 + 1);
+/// ```
+pub const TREE_BYTES: usize = 1_365;
+
+/// The places of one level of a `w` by `h` sheet; 0 for a side that is not 1 to 8 or a level that is not 0 to 3.
+///
+/// ```
+/// use kiln::level_places;
+///
+/// assert_eq!([0, 1, 2, 3].map(|level| level_places(8, 8, level)), [121, 361, 1_225, 4_489]);
+/// assert_eq!(level_places(9, 8, 0), 0);
+/// assert_eq!(level_places(8, 8, 4), 0);
+/// ```
+pub fn level_places(w: usize, h: usize, level: usize) -> usize {
+    let sides = 1..=8;
+    if sides.contains(&w) && sides.contains(&h) && level <= 3 {
+        ((w << level) + 3) * ((h << level) + 3)
+    } else {
+        0
+    }
+}
+
+/// The places of a `w` by `h` sheet, the length of its coefficients; 0 for a side that is not 1 to 8.
+///
+/// ```
+/// assert_eq!(kiln::places(8, 8), 6_196);
+/// assert_eq!(kiln::places(0, 8), 0);
+/// ```
+pub fn places(w: usize, h: usize) -> usize {
+    (0..=3).map(|level| level_places(w, h, level)).sum()
+}
+
+/// Where the coefficient of the function (`i`, `j`) of a level stands among those of a `w` by `h` sheet.
+///
+/// Level 0 comes first, then 1, 2, 3; in a level j rises, within a row i rises. In level L both start at -3; i ends at
+/// w × 2^L - 1 and j at h × 2^L - 1. `None` for a function that is not there.
+///
+/// ```
+/// use kiln::place_of;
+///
+/// // On 2 by 1 a row of level 0 has five places, and there are four rows.
+/// assert_eq!(place_of(2, 1, 0, -3, -3), Some(0));
+/// assert_eq!(place_of(2, 1, 0, 1, -3), Some(4));
+/// assert_eq!(place_of(2, 1, 0, -3, -2), Some(5));
+/// assert_eq!(place_of(2, 1, 0, 1, 0), Some(19));
+/// assert_eq!(place_of(2, 1, 1, -3, -3), Some(20));
+/// // The last place of all.
+/// assert_eq!(place_of(2, 1, 3, 15, 7), Some(kiln::places(2, 1) - 1));
+///
+/// assert_eq!(place_of(2, 1, 0, 2, 0), None);
+/// assert_eq!(place_of(2, 1, 0, 1, 1), None);
+/// assert_eq!(place_of(2, 1, 0, 1, -4), None);
+/// assert_eq!(place_of(2, 1, 4, 0, 0), None);
+/// assert_eq!(place_of(2, 9, 0, 0, 0), None);
+/// ```
+pub fn place_of(w: usize, h: usize, level: usize, i: i64, j: i64) -> Option<usize> {
+    if level_places(w, h, level) == 0 {
+        return None;
+    }
+    let (row, rows) = ((w << level) + 3, (h << level) + 3);
+    let (a, b) = (from_low_edge(i, row)?, from_low_edge(j, rows)?);
+    Some((0..level).map(|coarser| level_places(w, h, coarser)).sum::<usize>() + b * row + a)
+}
+
+// How far an index is from -3, if it is one of `count`.
+fn from_low_edge(index: i64, count: usize) -> Option<usize> {
+    let from = usize::try_from(index.checked_add(3)?).ok()?;
+    (from < count).then_some(from)
+}

@@ -1,0 +1,31 @@
+//! The crate has the numbers of the C header.
+use kiln::{places, Refusal, DENOMINATOR, TREE_BYTES};
+
+const HEADER: &str = include_str!(concat!(env!("CARGO_MANIFEST_DIR"), "/../include/kiln.h"));
+
+fn leading_number(text: &str) -> i64 {
+    let digits = text.find(|c: char| !c.is_ascii_digit()).unwrap_or(text.len());
+    text[..digits].parse().unwrap()
+}
+
+#[test]
+fn every_refusal_of_the_header_has_a_name_and_no_other_number_has() {
+    let of_header = |line: &'static str| Some(leading_number(line.trim().strip_prefix("KILN_")?.split_once(" = ")?.1));
+    let numbers: Vec<i64> = HEADER.lines().filter_map(of_header).collect();
+    assert_eq!(numbers[0], 0);
+    for number in 0..=u8::MAX {
+        let named = Refusal::of(number).is_some();
+        assert_eq!(named, number != 0 && numbers.contains(&i64::from(number)), "number {number}");
+    }
+}
+
+#[test]
+fn the_fixed_numbers_are_those_of_the_header() {
+    let defined = |name: &str| {
+        let (_, value) = HEADER.split_once(&format!("#define {name} ")).unwrap();
+        leading_number(value.strip_prefix("INT64_C(").unwrap_or(value))
+    };
+    assert_eq!(defined("KILN_DENOMINATOR"), DENOMINATOR);
+    assert_eq!(defined("KILN_TREE_BYTES"), TREE_BYTES as i64);
+    assert_eq!(defined("KILN_PLACES"), places(8, 8) as i64);
+}
