@@ -1,7 +1,7 @@
 /* The calls of kiln.h with a table in one struct, for C and C++.
 
-   A table, a point, a box, a function and a sheet are structs of their own, so that a compiler refuses one in the place
-   of another, and a table's sides, buffers and lengths stay together. Each function makes the one call that it names:
+   A table, a point, a box, a function and a sheet are structs of their own, so that a compiler refuses one in place of
+   another, and a table's sides, buffers and lengths stay together. Each function makes the one call that it names:
    what that gives, its refusals and what they leave are said in kiln.h, and below what differs. Members are best said
    by name, in C as (struct kiln_point){.u = 64, .v = 5}. */
 #ifndef KILN_TABLE_H
@@ -46,8 +46,8 @@ struct kiln_function {
   int64_t j;
 };
 
-/* Buffers that a call writes a table to, of KILN_TREE_BYTES and KILN_PLACES for any table. Longer ones are left as they
-   were past the table; too few numbers are refused with 16, a tree buffer that is too short with 17. */
+/* Buffers that a call writes a table to, of KILN_TREE_BYTES and KILN_PLACES for any table. What is past the table is
+   left as it was. Too few numbers are refused with 16, a tree buffer that is too short with 17. */
 struct kiln_room {
   uint8_t *tree;
   size_t tree_len;
