@@ -144,6 +144,22 @@ static void box_is_inserted(const struct kiln_table *s) {
 }
 
 /* "2 by 1, the same box: 16 active at level 0, 10 at level 1. Box 0,0 to 8,4: least level 0, 5 nodes", 700 x D. */
+static void two_by_one_from_file(void) {
+  static const uint8_t heads[24] = {1, 0, 2, 2, 1, 2, 0, 13, 4, 4, 4, 1, 0, 0, 0, 0, 0, 0, 0, 0, 0, 16, 0, 80};
+  static const uint8_t head_1[3] = {17, 0, 50}, tail[6] = {18, 0, 0, 19, 0, 0};
+  static const uint8_t watts_700[5] = {0, 0, 0, 2, 188}, units_44800[5] = {0, 0, 0, 175, 0};
+  struct kiln_table table;
+  int64_t numerator = 77;
+  uint8_t file[163];
+  memcpy(file, heads, 24);
+  for (size_t k = 0; k < 16; k++) memcpy(file + 24 + 5 * k, watts_700, 5);
+  memcpy(file + 104, head_1, 3);
+  for (size_t k = 0; k < 10; k++) memcpy(file + 107 + 5 * k, units_44800, 5);
+  memcpy(file + 157, tail, 6);
+  HELD(kiln_table_read_file(file, 163, room_b, &table) == KILN_DONE && is(&table, 2, 1, room_b, 13, TWO));
+  HELD(kiln_table_exact(&table, at(256, 128), &numerator) == KILN_DONE && numerator == 700 * KILN_DENOMINATOR);
+}
+
 static void two_by_one(void) {
   struct kiln_table flat = {9, 9, NULL, 9, NULL, 9}, table;
   uint8_t level = 77;
@@ -281,6 +297,7 @@ int main(void) {
   rooms_filled();
   s_is_read(&s);
   box_is_inserted(&s);
+  two_by_one_from_file();
   two_by_one();
   one_is_set();
   costs();
