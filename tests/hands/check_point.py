@@ -69,7 +69,8 @@ def cases() -> List[Tuple[str, bytes, List[Tuple[int, int, int]]]]:
                ("above", file_of(fine_sheet(32_032, 32_033)), [(1, 1, 2_950)])]
     rng = Random(53)
     random = [samples.random_table(rng, w, h) for w, h in ((1, 8), (8, 1), (3, 5), (6, 2))]
-    random.append(samples.table_of(rng, 8, 8, samples.speckled_levels(rng, 8, 8, (0, 1, 2, 3))))
+    # A long tree, and a long file.
+    random += [samples.table_of(rng, 8, 8, samples.speckled_levels(rng, 8, 8, of)) for of in ((0, 1, 2, 3), (3,))]
     chosen += [(f"random{k}", file_of(table), [(*at, rng.randint(0, 99_999))
                for at in samples.random_points(rng, table.w, table.h, 4)]) for k, table in enumerate(random)]
     s = sample["bench-s"]

@@ -148,7 +148,7 @@ def main(archive: str) -> int:
     if not library:
         faults.append("the library has no calls")
     tried = 0
-    for whose, language, _ in sources:
+    for whose, language, _ in sources if not faults else []:
         count, unseen = changed_types(language, bare[whose], [calls[other] for other in calls if other != whose])
         tried += count
         # Each call returns a type and takes some: that many changes at least are there to be made.
