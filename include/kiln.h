@@ -113,7 +113,7 @@ static inline const char *kiln_refusal_words(uint8_t number) {
     case KILN_FILE_GOES_ON: return "bytes after the last field";
     case KILN_OUTPUT_LENGTH: return "numbers or activity output not of the exact length";
     case KILN_TREE_OUTPUT_SHORT: return "tree output shorter than the tree";
-    default: return "a number that this version does not know";
+    default: return "a cause that this version has no words for";
   }
 }
 

@@ -11,7 +11,9 @@ from typing import Dict
 CRATE = Path(__file__).resolve().parents[2] / "rust"
 # One refusal in the crate's list: its number, its name and its words.
 REFUSAL = re.compile(r'^\s*(\d+)\s+\w+\s+"([^"\\]+)"\s*$', re.M)
-UNKNOWN = "a number that this version does not know"
+# Its words for a number that is not in the list, where it has any. C's are the same less 'of the crate'.
+OTHER = re.compile(r'\bUnknown\b[^\n]*=> "([^"\\]+)"')
+NO_WORDS = "a cause that this version of the crate has no words for"
 
 
 def version() -> str:
@@ -24,11 +26,13 @@ def version() -> str:
 
 def refusal_words() -> Dict[int, str]:
     """The words of every number that a byte holds."""
-    found = [(int(number), words) for number, words in REFUSAL.findall((CRATE / "src/refusal.rs").read_text("utf-8"))]
+    source = (CRATE / "src/refusal.rs").read_text(encoding="utf-8")
+    found = [(int(number), words) for number, words in REFUSAL.findall(source)]
     # Document 01's table has the numbers 1 to 17; later ones go on from there.
     if len(found) < 17 or [number for number, _ in found] != list(range(1, len(found) + 1)):
         raise ValueError("the Rust crate's refusals are not numbered from 1 on")
-    return {**{number: UNKNOWN for number in range(256)}, 0: "no refusal", **dict(found)}
+    other = (OTHER.findall(source) or [NO_WORDS])[0].replace(" of the crate", "")
+    return {**{number: other for number in range(256)}, 0: "no refusal", **dict(found)}
 
 
 if __name__ == "__main__":
