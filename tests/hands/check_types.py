@@ -16,6 +16,7 @@ ROOT = Path(__file__).resolve().parents[2]
 # A parameter as C and Rust pass it: its name, and its type in Rust's words.
 Parameter = Tuple[str, str]
 C_TYPES = {"uint8_t": "u8", "size_t": "usize", "int64_t": "i64", "double": "f64"}
+TYPE = "|".join(C_TYPES.values())
 # The library's parameters that C and Rust have under another name.
 RENAMED = {"tree_length": "length"}
 
@@ -36,13 +37,13 @@ def c_parameter(text: str) -> List[Parameter]:
 
 
 def rust_parameter(text: str) -> List[Parameter]:
-    found = re.fullmatch(r"(\w+): ((?:\*const |\*mut )?(?:u8|usize|i64|f64))", text)
+    found = re.fullmatch(rf"(\w+): ((?:\*const |\*mut )?(?:{TYPE}))", text)
     return [(found[1], found[2])] if found else [(text, "no type of the calls in Rust")]
 
 
 def library_parameter(text: str) -> List[Parameter]:
     """A slice is a pointer and a length after it, const unless it is lent for writing; `&mut` is a pointer."""
-    found = re.fullmatch(r"(\w+): (?:(usize|i64)|(&|&mut )\[(u8|i64)\]|&mut (u8|usize|i64|f64))", text)
+    found = re.fullmatch(rf"(\w+): (?:({TYPE})|(&|&mut )\[({TYPE})\]|&mut ({TYPE}))", text)
     if not found:
         return [(text, "no type of the calls in the library")]
     name = RENAMED.get(found[1], found[1])
