@@ -2,14 +2,15 @@
 
    Power draw over chamber temperature and climb rate is a surface of truncated hierarchical bicubic splines on a sheet
    of W by H cells. The calls make, load, refine and read tables of such a surface. `rt staticlib kiln` writes the
-   library to target/staticlib/libkiln.a, for x86-64. It needs memcpy and memset and nothing else.
+   library to target/staticlib/libkiln.a, for x86-64. It needs memcpy and memset and nothing else. kiln_table.h has the
+   same calls with a table in one struct.
 
    Answers
      Every call returns 0 when it is done, else the refusal number of the cause that applies, the lowest where several
-     do, or for a file the first in byte order (enum kiln_refusal). Each call below names those that it can give. What
-     it gives beside is written through its pointers. A refused call writes nothing: every buffer and every value that
-     was lent holds what it held before. Every call ends in one of the two, whatever the numbers and the contents of
-     the buffers are.
+     do, or for a file the first in byte order (enum kiln_refusal; in words by kiln_refusal_words). Each call below
+     names those that it can give. What it gives beside is written through its pointers. A refused call writes nothing:
+     every buffer and every value that was lent holds what it held before. Every call ends in one of the two, whatever
+     the numbers and the contents of the buffers are.
 
    Slices
      A buffer passes as a pointer and, right after it, a length in elements. The length is taken as said: that many
@@ -35,11 +36,19 @@
 extern "C" {
 #endif
 
+/* The version of this header, which is that of the library it came with. The archive itself carries none. */
+#define KILN_VERSION_MAJOR 0
+#define KILN_VERSION_MINOR 1
+#define KILN_VERSION_PATCH 0
+
 /* The table
 
    A table is a sheet, a tree and a coefficient slice. It is acceptable when none of the causes 1 to 5 applies to it.
 
-   w, h: the sheet is w by h cells of level 0, each side 1 to 8. Levels are 0 to 3, and each one halves the cells.
+   w, h: the sheet is w by h cells of level 0, each side 1 to 8. Levels are 0 to 3, and each one halves the cells. w
+   and u run along the chamber temperature, h and v along the climb rate. How many degrees a cell is, where the first
+   one begins and how a temperature or a rate is rounded to a step is the controller's to say: neither a table nor its
+   file carries a scale.
 
    tree: the regions. A quarter is a quarter of a level 0 cell's side; each square one quarter on a side has a level 0
    to 3. The tree covers 32 by 32 quarters from the sheet's corner and is written parent first: bytes 0 to 3 are a leaf
@@ -51,36 +60,62 @@ extern "C" {
    numbers: the coefficients, kiln_places(w, h) of them: level 0 first, then 1, 2, 3; in a level j rises, within a row
    i rises. In level L both i and j start at -3; i ends at w*2^L - 1 and j at h*2^L - 1, so a row has w*2^L + 3 places
    and there are h*2^L + 3 rows. A level L coefficient is a signed whole number of 1/64^L watt, at most 32,000*64^L in
-   size. A function is active when the least level under its support, cut to the sheet, is its own; passive places
-   hold 0.
+   size. The support of function (i, j) is four by four cells of its level, from cell edge i to i + 4 along u and from
+   j to j + 4 along v, cut to the sheet. A function is active when the least level under its support is its own: the
+   least of all squares that share area with it, also where a level 3 edge halves one. Passive places hold 0.
 
-   u, v: a point, in steps of 1/128 cell: 0 to 128*w and 0 to 128*h, far edges included.
+   u, v: a point, in steps of 1/128 cell of level 0: 0 to 128*w and 0 to 128*h, far edges included.
 
    u0, v0, u1, v1: a box, two corners in whole quarters, low corner first: u0 < u1 <= 4*w and v0 < v1 <= 4*h.
 
    A negative number that C turns into a size_t is far above every limit and is refused with its cause's number. */
 
-/* The causes of refusal. Later versions may have more numbers. */
+/* The causes of refusal, in words by kiln_refusal_words. Later versions may have more numbers. */
 enum kiln_refusal {
-  KILN_DONE = 0,                /* no refusal */
-  KILN_SIDE = 1,                /* a side of 0 or above 8 */
-  KILN_TREE = 2,                /* tree not of the form above */
-  KILN_NUMBERS_LENGTH = 3,      /* coefficient slice not of the total length */
-  KILN_COEFFICIENT_LIMIT = 4,   /* active coefficient past its limit */
-  KILN_PASSIVE_NOT_ZERO = 5,    /* passive place not 0 */
-  KILN_POINT = 6,               /* point off the sheet */
-  KILN_BOX = 7,                 /* box with no area, or past the sheet */
-  KILN_LEVEL = 8,               /* level not 1 to 3 (insert) or 0 to 3 (set, activity) */
-  KILN_FUNCTION = 9,            /* set: index out of range or function passive */
-  KILN_NUMBER_LIMIT = 10,       /* set, fresh: number past its limit */
-  KILN_TARIFF = 11,             /* tariff above 99,999 */
-  KILN_FILE_ENDS = 12,          /* file ends inside a head or body */
-  KILN_FILE_TAG = 13,           /* other tag than the one due */
-  KILN_FILE_FIELD_LENGTH = 14,  /* field length wrong */
-  KILN_FILE_GOES_ON = 15,       /* bytes after the last field */
-  KILN_OUTPUT_LENGTH = 16,      /* numbers or activity output not of the exact length */
-  KILN_TREE_OUTPUT_SHORT = 17   /* tree output shorter than the tree */
+  KILN_DONE = 0,
+  KILN_SIDE = 1,
+  KILN_TREE = 2,
+  KILN_NUMBERS_LENGTH = 3,
+  KILN_COEFFICIENT_LIMIT = 4,
+  KILN_PASSIVE_NOT_ZERO = 5,
+  KILN_POINT = 6,
+  KILN_BOX = 7,
+  KILN_LEVEL = 8,
+  KILN_FUNCTION = 9,
+  KILN_NUMBER_LIMIT = 10,
+  KILN_TARIFF = 11,
+  KILN_FILE_ENDS = 12,
+  KILN_FILE_TAG = 13,
+  KILN_FILE_FIELD_LENGTH = 14,
+  KILN_FILE_GOES_ON = 15,
+  KILN_OUTPUT_LENGTH = 16,
+  KILN_TREE_OUTPUT_SHORT = 17
 };
+
+/* What a call returned, in words; for every number, never NULL. */
+static inline const char *kiln_refusal_words(uint8_t number) {
+  switch (number) {
+    case KILN_DONE: return "no refusal";
+    case KILN_SIDE: return "a side of 0 or above 8";
+    case KILN_TREE: return "tree not of the form of a region tree";
+    case KILN_NUMBERS_LENGTH: return "coefficient slice not of the total length";
+    case KILN_COEFFICIENT_LIMIT: return "active coefficient past its limit";
+    case KILN_PASSIVE_NOT_ZERO: return "passive place not 0";
+    case KILN_POINT: return "point off the sheet";
+    case KILN_BOX: return "box with no area, or past the sheet";
+    case KILN_LEVEL: return "level not 1 to 3 (insert) or 0 to 3 (set, activity)";
+    case KILN_FUNCTION: return "set: index out of range or function passive";
+    case KILN_NUMBER_LIMIT: return "set, fresh: number past its limit";
+    case KILN_TARIFF: return "tariff above 99,999";
+    case KILN_FILE_ENDS: return "file ends inside a head or body";
+    case KILN_FILE_TAG: return "other tag than the one due";
+    case KILN_FILE_FIELD_LENGTH: return "field length wrong";
+    case KILN_FILE_GOES_ON: return "bytes after the last field";
+    case KILN_OUTPUT_LENGTH: return "numbers or activity output not of the exact length";
+    case KILN_TREE_OUTPUT_SHORT: return "tree output shorter than the tree";
+    default: return "a cause that this version has no words for";
+  }
+}
 
 /* No tree is longer: a tree output of this length is never too short. */
 #define KILN_TREE_BYTES 1365
@@ -199,6 +234,9 @@ uint8_t kiln_exact(size_t w, size_t h, const uint8_t *tree, size_t tree_len, con
 
 /* The reading at a point as a double, which lies within 2^-30 watt of the exact one. Doubles must be rounded to
    nearest, as they are unless a program says otherwise.
+
+   The figure for people is kiln_display's. This one rounded to whole watts can be a watt off it: where the exact
+   reading is one numerator below 500.5 watts the display is 500, and the double is 500.5, which rounds to 501.
 
    w, h, tree, numbers   the table
    u, v                  the point

@@ -104,6 +104,21 @@ static void coefficients_set(void) {
   HELD(kiln_table_cause(1, 1, flat, 1, many, ONE - 1) == KILN_NUMBERS_LENGTH);
 }
 
+/* Beside 500.5 watts, 32,032 units of 1/64 watt. A unit of function (0, 0) of level 1 is one numerator at (1, 1): t is
+   1/64 there in each direction, and t^3/6 squared over 64 is 1/D. The display tells it, the f64 does not. */
+static void beside_a_half(void) {
+  memset(many, 0, sizeof many);
+  for (size_t k = 0; k < FINE; k++) many[16 + k] = 32032;
+  HELD(kiln_exact(1, 1, level_1, 13, many, ONE, 1, 1, &numerator) == KILN_DONE);
+  HELD(numerator == 1001 * (KILN_DENOMINATOR / 2));
+  HELD(kiln_display(1, 1, level_1, 13, many, ONE, 1, 1, &figure) == KILN_DONE && figure == 501);
+  HELD(kiln_set(1, 1, level_1, 13, many, ONE, 1, 0, 0, 32031) == KILN_DONE);
+  HELD(kiln_exact(1, 1, level_1, 13, many, ONE, 1, 1, &numerator) == KILN_DONE);
+  HELD(numerator == 1001 * (KILN_DENOMINATOR / 2) - 1);
+  HELD(kiln_display(1, 1, level_1, 13, many, ONE, 1, 1, &figure) == KILN_DONE && figure == 500);
+  HELD(kiln_watts(1, 1, level_1, 13, many, ONE, 1, 1, &watts) == KILN_DONE && watts == 500.5 && round(watts) == 501);
+}
+
 /* "Fresh table of 1 watt: tariff 1,499 costs 1, tariff 1,500 costs 2." */
 static void costs(void) {
   HELD(kiln_fresh(2, 3, 32001, tree, 1, more, kiln_places(2, 3), &length) == KILN_NUMBER_LIMIT);
@@ -149,6 +164,7 @@ int main(void) {
   box_inserted();
   east();
   coefficients_set();
+  beside_a_half();
   costs();
   trees();
   file_of_s();

@@ -1,0 +1,154 @@
+/* The calls of kiln.h with a table in one struct, for C and C++.
+
+   A table, a point, a box, a function and a sheet are structs of their own, so that a compiler refuses one in place of
+   another, and a table's sides, buffers and lengths stay together. Each function makes the one call that it names:
+   what that gives, its refusals and what they leave are said in kiln.h, and below what differs. Members are best said
+   by name, in C as (struct kiln_point){.u = 64, .v = 5}. */
+#ifndef KILN_TABLE_H
+#define KILN_TABLE_H
+
+#include "kiln.h"
+
+/* A table that calls read. Only kiln_table_set writes numbers: those of a table in read-only memory may be cast. */
+struct kiln_table {
+  size_t w;
+  size_t h;
+  const uint8_t *tree;
+  size_t tree_len;  /* the tree's own length, not that of the buffer that it stands in */
+  int64_t *numbers;
+  size_t numbers_len;
+};
+
+/* A sheet of w by h cells. */
+struct kiln_sheet {
+  size_t w;
+  size_t h;
+};
+
+/* A point in steps of 1/128 cell: u along w, v along h. */
+struct kiln_point {
+  size_t u;
+  size_t v;
+};
+
+/* A box in whole quarters of a cell, from its low corner (u0, v0) to its high corner (u1, v1). */
+struct kiln_box {
+  size_t u0;
+  size_t v0;
+  size_t u1;
+  size_t v1;
+};
+
+/* Function (i, j) of a level, i along w and j along h, each from -3. */
+struct kiln_function {
+  size_t level;
+  int64_t i;
+  int64_t j;
+};
+
+/* Buffers that a call writes a table to, of KILN_TREE_BYTES and KILN_PLACES for any table. What is past the table is
+   left as it was. Too few numbers are refused with 16, a tree buffer that is too short with 17. */
+struct kiln_room {
+  uint8_t *tree;
+  size_t tree_len;
+  int64_t *numbers;
+  size_t numbers_len;
+};
+
+/* The length to lend of a room's numbers: as many places as are needed, or all there are where these are fewer. */
+static inline size_t kiln_room_places(struct kiln_room room, size_t needed) {
+  return room.numbers_len < needed ? room.numbers_len : needed;
+}
+
+/* Makes the struct of a table that a call wrote to a room. */
+static inline void kiln_room_written(struct kiln_room room, size_t w, size_t h, size_t tree_len,
+                                     struct kiln_table *made) {
+  made->w = w;
+  made->h = h;
+  made->tree = room.tree;
+  made->tree_len = tree_len;
+  made->numbers = room.numbers;
+  made->numbers_len = kiln_places(w, h);
+}
+
+/* kiln_read_file. The table that made receives lies in the room. A refusal leaves room and made as they were. */
+static inline uint8_t kiln_table_read_file(const uint8_t *file, size_t file_len, struct kiln_room room,
+                                           struct kiln_table *made) {
+  size_t tree_len = 0, w = 0, h = 0;
+  uint8_t refused = kiln_read_file(file, file_len, room.tree, room.tree_len, room.numbers,
+                                   kiln_room_places(room, kiln_file_places(file, file_len)), &tree_len, &w, &h);
+  if (!refused) kiln_room_written(room, w, h, tree_len, made);
+  return refused;
+}
+
+/* kiln_fresh. The table that made receives lies in the room. A refusal leaves room and made as they were. */
+static inline uint8_t kiln_table_fresh(struct kiln_sheet sheet, int64_t number, struct kiln_room room,
+                                       struct kiln_table *made) {
+  size_t tree_len = 0;
+  uint8_t refused = kiln_fresh(sheet.w, sheet.h, number, room.tree, room.tree_len, room.numbers,
+                               kiln_room_places(room, kiln_places(sheet.w, sheet.h)), &tree_len);
+  if (!refused) kiln_room_written(room, sheet.w, sheet.h, tree_len, made);
+  return refused;
+}
+
+/* kiln_insert. The table that made receives lies in the room, which must not overlap the one that is read; made may be
+   the struct of the one that is read. A refusal leaves room and made as they were. */
+static inline uint8_t kiln_table_insert(const struct kiln_table *table, struct kiln_box box, size_t level,
+                                        struct kiln_room room, struct kiln_table *made) {
+  size_t tree_len = 0;
+  uint8_t refused = kiln_insert(table->w, table->h, table->tree, table->tree_len, table->numbers, table->numbers_len,
+                                box.u0, box.v0, box.u1, box.v1, level, room.tree, room.tree_len, room.numbers,
+                                kiln_room_places(room, kiln_places(table->w, table->h)), &tree_len);
+  if (!refused) kiln_room_written(room, table->w, table->h, tree_len, made);
+  return refused;
+}
+
+/* kiln_set. Writes one of the table's numbers. */
+static inline uint8_t kiln_table_set(struct kiln_table *table, struct kiln_function function, int64_t number) {
+  return kiln_set(table->w, table->h, table->tree, table->tree_len, table->numbers, table->numbers_len, function.level,
+                  function.i, function.j, number);
+}
+
+/* kiln_table_cause. */
+static inline uint8_t kiln_table_judge(const struct kiln_table *table) {
+  return kiln_table_cause(table->w, table->h, table->tree, table->tree_len, table->numbers, table->numbers_len);
+}
+
+/* kiln_exact. */
+static inline uint8_t kiln_table_exact(const struct kiln_table *table, struct kiln_point point, int64_t *numerator) {
+  return kiln_exact(table->w, table->h, table->tree, table->tree_len, table->numbers, table->numbers_len, point.u,
+                    point.v, numerator);
+}
+
+/* kiln_watts. */
+static inline uint8_t kiln_table_watts(const struct kiln_table *table, struct kiln_point point, double *watts) {
+  return kiln_watts(table->w, table->h, table->tree, table->tree_len, table->numbers, table->numbers_len, point.u,
+                    point.v, watts);
+}
+
+/* kiln_display. */
+static inline uint8_t kiln_table_display(const struct kiln_table *table, struct kiln_point point, int64_t *watts) {
+  return kiln_display(table->w, table->h, table->tree, table->tree_len, table->numbers, table->numbers_len, point.u,
+                      point.v, watts);
+}
+
+/* kiln_cost. */
+static inline uint8_t kiln_table_cost(const struct kiln_table *table, struct kiln_point point, size_t tariff,
+                                      size_t *cost) {
+  return kiln_cost(table->w, table->h, table->tree, table->tree_len, table->numbers, table->numbers_len, point.u,
+                   point.v, tariff, cost);
+}
+
+/* kiln_least_level. Takes the table's sheet and tree; its numbers are not looked at. */
+static inline uint8_t kiln_table_least_level(const struct kiln_table *table, struct kiln_box box, uint8_t *level,
+                                             size_t *visited) {
+  return kiln_least_level(table->w, table->h, table->tree, table->tree_len, box.u0, box.v0, box.u1, box.v1, level,
+                          visited);
+}
+
+/* kiln_activity. Takes the table's sheet and tree; its numbers are not looked at. */
+static inline uint8_t kiln_table_activity(const struct kiln_table *table, size_t level, uint8_t *out, size_t out_len) {
+  return kiln_activity(table->w, table->h, table->tree, table->tree_len, level, out, out_len);
+}
+
+#endif
