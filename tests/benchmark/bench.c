@@ -24,7 +24,7 @@ static unsigned nothing(void) {
   return 0;
 }
 
-static unsigned table_check(void) {
+static unsigned table_cause(void) {
   return CALL(table_cause)(w, h, tree, tree_len, numbers, numbers_len);
 }
 
@@ -79,7 +79,7 @@ struct call {
 };
 
 static const struct call calls[] = {
-  {"nothing", nothing}, {"table_check", table_check}, {"least_level", least_level}, {"activity", activity},
+  {"nothing", nothing}, {"table_cause", table_cause}, {"least_level", least_level}, {"activity", activity},
   {"fresh", fresh}, {"set", set},
   {"insert", insert}, {"exact", exact}, {"watts", watts}, {"display", display}, {"cost", cost},
   {"read_file", read_file},
