@@ -57,7 +57,7 @@ BARS = {
     "file reading": Bar("instructions of reading the largest file", FILE_READING, counts(LARGEST_FILE, "read_file")),
     "beyond": Bar("instructions of an exact reading beyond the table check", READING_BEYOND_CHECK, beyond),
     "stack": Bar("bytes of stack of a call", STACK, stacks),
-    "corners": Bar("instructions of the corner program over those of file reading, the largest file", CORNERS, corners),
+    "corners": Bar("instructions of the corner program over those of reading its file, the largest", CORNERS, corners),
 }
 
 

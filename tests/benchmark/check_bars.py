@@ -96,7 +96,7 @@ def self_test() -> List[str]:
 def unmeasured() -> List[str]:
     """Calls of the header that are not measured, and the other way round."""
     declared = set(re.findall(r"^uint8_t kiln_(\w+)", HEADER.read_text(encoding="utf-8"), re.M))
-    return [f"kiln_{call}: declared or measured, but not both" for call in sorted(declared.symmetric_difference(CALLS))]
+    return [f"kiln_{call}: declared or measured, but not both" for call in sorted(declared ^ set(CALLS))]
 
 
 def other_bars() -> List[str]:

@@ -103,11 +103,11 @@ def page(figures: Figures) -> str:
 def main() -> int:
     figures = all_figures(with_times=True)
     (ROOT / "docs/BENCHMARKS.md").write_text(page(figures), encoding="utf-8")
-    lines = bars.missed(figures)
-    for line in lines:
-        print(f"bar not met: {line}")
-    print(f"benchmark: {len(CALLS)} calls of the library beside C on {len(tables())} tables, {len(lines)} bars not met")
-    return 1 if lines else 0
+    faults = bars.missed(figures)
+    for fault in faults:
+        print(f"bar not met: {fault}")
+    print(f"benchmark: {len(CALLS)} calls of the library beside C on {len(tables())} tables, {len(faults)} faults")
+    return 1 if faults else 0
 
 
 if __name__ == "__main__":
