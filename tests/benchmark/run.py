@@ -29,9 +29,9 @@ def paragraphs() -> List[str]:
     return [
         "Instructions of one call, counted by valgrind's callgrind on x86-64, so that they repeat: of the library, "
         "and of `tests/benchmark/plain_*.c`, the same checks and the same steps in plain C, built by "
-        f"gcc {gcc} -O2. Beside them the microseconds of one call on {processor()}, processor's time, the least of many "
-        "rounds that both programs made by turns. In that directory `run.py` makes this page, whose figures are those of the day "
-        "it was made, and `check_plain.py` holds the C program to the evaluator.",
+        f"gcc {gcc} -O2. Beside them the microseconds of one call on {processor()}, processor's time, the least of "
+        "many rounds that both programs made by turns. In that directory `run.py` makes this page, whose figures are "
+        "those of the day it was made, and `check_plain.py` holds the C program to the evaluator.",
         "The least level is asked over the whole sheet, the activity of level 3; one coefficient of level 0 is set; "
         "the whole sheet is raised to level 3; readings are taken at (64 W + 5, 64 H + 7), the tariff is 1,500; the "
         "file that is read is the table's, and the largest is that of 8 by 8 with the tree 3, 22,445 bytes of "
