@@ -24,7 +24,7 @@ def processor() -> str:
 
 
 def paragraphs() -> List[str]:
-    """How the figures are made, and which of them are compared."""
+    """How the figures are made."""
     gcc = subprocess.run(["gcc", "-dumpfullversion"], check=True, capture_output=True, text=True).stdout.strip()
     return [
         "Instructions of one call, counted by valgrind's callgrind on x86-64, so that they repeat: of the library, "
