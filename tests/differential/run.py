@@ -27,7 +27,8 @@ import insertions
 import tables
 from library import ROOT, Inside, Library, shared
 
-SEED = 20_261_115
+# Each landing raises this number by one, so that it draws other calls than those before it.
+SEED = int((ROOT / "tests/differential/seed.txt").read_text(encoding="utf-8"))
 TOTAL = 3_000
 # From so many calls on, each kind of call must have been accepted and refused; so many faults are enough; and after so
 # many calls a line is printed.
@@ -106,7 +107,7 @@ def work(lib: Library, words: str, command: str, asked: Namespace, grids: bool, 
         lib.counts.clear()
         calls, faults = generated(lib, words, command, asked, begun)
         faults += len(wrong)
-        print(f"{words}: the fixed cases and {calls} generated calls, {faults} faults")
+        print(f"{words}: the fixed cases and {calls} generated calls of seed {asked.seed}, {faults} faults")
     if asked.counts:
         for kind, (accepted, refused) in lib.counts.items():
             print(f"{kind}: {accepted} accepted, {refused} refused")
@@ -146,11 +147,11 @@ def hold(lib: Library, words: str, command: str, asked: Namespace, grids: bool =
         sleep(0.05)
 
 
-def asked_for(script: str) -> Namespace:
-    """What the command line asks for: calls, seed, case (None for all) and counts."""
+def asked_for(script: str, seed: int = SEED) -> Namespace:
+    """What the command line asks for: calls, seed (this one where none is named), case (None for all) and counts."""
     parser = ArgumentParser(prog=script)
     parser.add_argument("calls", nargs="?", type=int, metavar="CALLS", help=f"generated calls, or {TOTAL}")
-    parser.add_argument("drawn_from", nargs="?", type=int, metavar="SEED", help=f"seed of all cases, or {SEED}")
+    parser.add_argument("drawn_from", nargs="?", type=int, metavar="SEED", help=f"seed of all cases, or {seed}")
     parser.add_argument("--seed", type=int, help="the same as SEED")
     parser.add_argument("--case", type=int, metavar="NUMBER", help="make this generated case alone")
     parser.add_argument("--counts", action="store_true", help="print how many calls were accepted and refused")
@@ -162,8 +163,7 @@ def asked_for(script: str) -> Namespace:
     if min(asked.calls or 0, asked.case or 0) < 0:
         parser.error("calls and cases are counted from 0")
     asked.calls = TOTAL if asked.calls is None else asked.calls
-    given = [seed for seed in (asked.seed, asked.drawn_from) if seed is not None]
-    asked.seed = given[0] if given else SEED
+    asked.seed = next((one for one in (asked.seed, asked.drawn_from) if one is not None), seed)
     return asked
 
 

@@ -16,6 +16,8 @@ sys.dont_write_bytecode = True
 import run
 from library import GUARD, MASK, ROOT, Lent, Library, archive
 
+# Other calls than those of run.py, at every landing.
+SEED = run.SEED + 1_000_000
 VALGRIND = ("valgrind", "--quiet", "--exit-on-first-error=yes", "--error-exitcode=9")
 FLAGS = ("-O2", "-std=c11", "-Wall", "-Wextra", "-Werror")
 
@@ -58,7 +60,7 @@ class Watched:
 
 def main() -> int:
     script = Path(__file__).resolve().relative_to(ROOT)
-    asked = run.asked_for(script.name)
+    asked = run.asked_for(script.name, SEED)
     with tempfile.TemporaryDirectory() as room:
         program = f"{room}/watched"
         source = str(ROOT / "tests/differential/watched.c")

@@ -1,0 +1,77 @@
+"""The bars of the benchmark: the greatest that figures may be, and the figures that each bar is compared with.
+
+`docs/DECISIONS.md` says where each number comes from.
+"""
+from __future__ import annotations
+
+from typing import Callable, Dict, List, NamedTuple
+
+from measure import BEYOND, CALLS, LARGEST, LARGEST_FILE, READINGS, Figures, calls_on, counted_on
+
+RATIO = 1.25
+READING = 300_000
+INSERTION = 700_000
+FILE_READING = 600_000
+READING_BEYOND_CHECK = 10_000
+STACK = 16_384
+CORNERS = 5.0
+
+
+class Bar(NamedTuple):
+    """What is held, in words; the greatest that it may be; and its figures, by where they were taken."""
+
+    what: str
+    greatest: float
+    of: Callable[[Figures], Dict[str, float]]
+
+
+def ratios(figures: Figures) -> Dict[str, float]:
+    return {f"{CALLS.get(call, call)}, {table}": ours.counts[call] / figures.plain[table].counts[call]
+            for table, ours in figures.library.items() for call in counted_on(table)}
+
+
+def counts(table: str, *calls: str) -> Callable[[Figures], Dict[str, float]]:
+    """The instructions of calls on one table."""
+    return lambda figures: {f"{CALLS[call]}, {table}": figures.library[table].counts[call] for call in calls}
+
+
+def beyond(figures: Figures) -> Dict[str, float]:
+    return {table: ours.counts[BEYOND] for table, ours in figures.library.items() if BEYOND in counted_on(table)}
+
+
+def stacks(figures: Figures) -> Dict[str, float]:
+    return {f"{CALLS[call]}, {table}": ours.stacks[call]
+            for table, ours in figures.library.items() for call in calls_on(table)}
+
+
+def corners(figures: Figures) -> Dict[str, float]:
+    return {LARGEST_FILE: figures.corners / figures.library[LARGEST_FILE].counts["read_file"]}
+
+
+BARS = {
+    "ratio": Bar("instructions over those of the C program, of a call and of an exact reading beyond the table check",
+                 RATIO, ratios),
+    "reading": Bar(f"instructions of the table check and of a reading, {LARGEST}", READING,
+                   counts(LARGEST, "table_cause", *READINGS)),
+    "insertion": Bar(f"instructions of an insertion, {LARGEST}", INSERTION, counts(LARGEST, "insert")),
+    "file reading": Bar("instructions of reading the largest file", FILE_READING, counts(LARGEST_FILE, "read_file")),
+    "beyond": Bar("instructions of an exact reading beyond the table check", READING_BEYOND_CHECK, beyond),
+    "stack": Bar("bytes of stack of a call", STACK, stacks),
+    "corners": Bar("instructions of the corner program over those of reading its file, the largest", CORNERS, corners),
+}
+
+
+def shown(figure: float) -> str:
+    """A ratio with two digits, a count as it is."""
+    return f"{figure:.2f}" if isinstance(figure, float) else f"{figure:,}"
+
+
+def missed(figures: Figures) -> List[str]:
+    """A line for each figure that is above its bar; a figure that is due and was not measured raises KeyError."""
+    return [f"{bar.what}: {where}: {round(figure, 4):,} is above {bar.greatest:,}"
+            for bar in BARS.values() for where, figure in bar.of(figures).items() if figure > bar.greatest]
+
+
+def compared(figures: Figures) -> int:
+    """How many figures are compared with a bar."""
+    return sum(len(bar.of(figures)) for bar in BARS.values())

@@ -1,0 +1,127 @@
+"""Measures instructions and stack of each call and compares them with every bar (bars.py). Times are left out.
+
+Run as: python3 tests/benchmark/check_bars.py [--self-test]; a line for each figure above its bar, exit code 1 then.
+The self test comes first, or alone where it is asked for: made-up figures past each bar must be told.
+"""
+from __future__ import annotations
+
+import re
+import sys
+from argparse import ArgumentParser
+from functools import partial
+from typing import Callable, Iterator, List, Tuple
+
+sys.dont_write_bytecode = True
+
+import bars
+from measure import BEYOND, CALLS, LARGEST, LARGEST_FILE, READINGS, ROOT, Figures, Measured
+from measure import all_figures, calls_on, counted_on, table_names
+
+PAGE, HEADER = ROOT / "docs/BENCHMARKS.md", ROOT / "include/kiln.h"
+# The bar's name, where its figure is taken, and made-up figures of which that one is so far past the bar.
+Push = Tuple[str, str, Callable[[int], Figures]]
+
+
+def made_up(table: str = "", call: str = "", ours: int = 100, theirs: int = 100, stack: int = 100,
+            corners: int = 100) -> Figures:
+    """Figures that are all 100, but for those of one call on one table and of the corner program."""
+    def on(name: str, count: int) -> Measured:
+        this = {call} if name == table else set()
+        return Measured({one: count if one in this else 100 for one in counted_on(name)},
+                        {one: stack if one in this else 100 for one in calls_on(name)}, {})
+    names = table_names()
+    return Figures({name: on(name, ours) for name in names}, {name: on(name, theirs) for name in names}, corners)
+
+
+def by_count(table: str, call: str, bar: int, past: int) -> Figures:
+    """Both programs have this count, so that their ratio is 1."""
+    return made_up(table, call, ours=bar + past, theirs=bar + past)
+
+
+def by_ratio(table: str, call: str, past: int) -> Figures:
+    return made_up(table, call, ours=round(100 * bars.RATIO) + past)
+
+
+def by_stack(table: str, call: str, past: int) -> Figures:
+    return made_up(table, call, stack=bars.STACK + past)
+
+
+def by_corners(past: int) -> Figures:
+    return made_up(corners=round(100 * bars.CORNERS) + past)
+
+
+def pushes() -> Iterator[Push]:
+    """Every figure that a bar is held of, by itself: no code of bars.py says which these are."""
+    for table in table_names():
+        for call in calls_on(table):
+            yield "ratio", f"{CALLS[call]}, {table}", partial(by_ratio, table, call)
+            yield "stack", f"{CALLS[call]}, {table}", partial(by_stack, table, call)
+        if BEYOND in counted_on(table):
+            yield "ratio", f"{BEYOND}, {table}", partial(by_ratio, table, BEYOND)
+            yield "beyond", table, partial(by_count, table, BEYOND, bars.READING_BEYOND_CHECK)
+    for name, table, call, bar in (
+            *(("reading", LARGEST, call, bars.READING) for call in ("table_cause", *READINGS)),
+            ("insertion", LARGEST, "insert", bars.INSERTION),
+            ("file reading", LARGEST_FILE, "read_file", bars.FILE_READING)):
+        yield name, f"{CALLS[call]}, {table}", partial(by_count, table, call, bar)
+    yield "corners", LARGEST_FILE, by_corners
+
+
+def self_test() -> List[str]:
+    """Faults of the comparison: at a bar nothing is told, just past it one line that names the bar and the place."""
+    faults, tried = [], []
+    for name, where, figures in pushes():
+        tried.append(name)
+        if bars.missed(figures(0)):
+            faults.append(f"self test: {name}, {where}: a figure at the bar is told")
+        lines = bars.missed(figures(1))
+        if len(lines) != 1 or not lines[0].startswith(f"{bars.BARS[name].what}: {where}: "):
+            faults.append(f"self test: {name}, {where}: a figure past the bar is told as {lines}")
+    faults += [f"self test: {name}: no figure was put past this bar" for name in bars.BARS if name not in tried]
+    if len(tried) != bars.compared(made_up()):
+        faults.append(f"self test: {len(tried)} figures were put past a bar, {bars.compared(made_up())} are compared")
+    for table in table_names():
+        for call in calls_on(table):
+            for part in ("counts", "stacks"):
+                figures = made_up()
+                del getattr(figures.library[table], part)[call]
+                try:
+                    bars.missed(figures)
+                    faults.append(f"self test: {CALLS[call]}, {table}: nobody misses its {part}")
+                except KeyError:
+                    pass
+    return faults
+
+
+def unmeasured() -> List[str]:
+    """Calls of the header that are not measured, and the other way round."""
+    declared = set(re.findall(r"^uint8_t kiln_(\w+)", HEADER.read_text(encoding="utf-8"), re.M))
+    return [f"kiln_{call}: declared or measured, but not both" for call in sorted(declared ^ set(CALLS))]
+
+
+def other_bars() -> List[str]:
+    """A line where the page's bars, the first two cells of its rows, are not those that are compared."""
+    part = PAGE.read_text(encoding="utf-8").partition("\n## Bars\n")[2].partition("\n## ")[0]
+    on_page = [tuple(row.split(" | ")[:2]) for row in re.findall(r"^\| (.*) \|$", part, re.M)][1:]
+    held = [(bar.what, bars.shown(bar.greatest)) for bar in bars.BARS.values()]
+    return [] if on_page == held else ["docs/BENCHMARKS.md has other bars: run tests/benchmark/run.py"]
+
+
+def main() -> int:
+    parser = ArgumentParser(prog="check_bars.py")
+    parser.add_argument("--self-test", action="store_true", help="only see that figures past each bar are told")
+    alone = parser.parse_args().self_test
+    faults = self_test() + unmeasured() + other_bars()
+    words = f"{len(bars.BARS)} bars, {sum(1 for _ in pushes())} made-up figures put past one"
+    if not alone:
+        figures = all_figures(with_times=False)
+        faults += [f"bar not met: {line}" for line in bars.missed(figures)]
+        words += f"; {bars.compared(figures)} figures measured and compared"
+    for fault in faults:
+        print(fault)
+    print(f"bars: {words}, {len(faults)} faults")
+    return 1 if faults else 0
+
+
+if __name__ == "__main__":
+    sys.exit(main())

@@ -1,0 +1,160 @@
+"""Measures one call of the library and of the plain C program: instructions, bytes of stack, and nanoseconds.
+
+Instructions and bytes of stack repeat from run to run; nanoseconds do not.
+"""
+from __future__ import annotations
+
+import re
+import subprocess
+import sys
+import tempfile
+from functools import lru_cache
+from pathlib import Path
+from random import Random
+from shutil import which
+from typing import Dict, List, NamedTuple, Tuple
+
+ROOT = Path(__file__).resolve().parents[2]
+HERE, BUILT = ROOT / "tests/benchmark", ROOT / "target/staticlib"
+sys.path += [str(ROOT / "tests/evaluator"), str(ROOT / "tests/differential")]
+
+import samples
+import tablefile
+from library import archive
+from surface import total_places
+
+# The calls by their names without kiln_, as bench.c has them.
+READINGS = {"exact": "Exact reading", "watts": "Reading as f64", "display": "Display", "cost": "Cost"}
+CALLS = {"table_cause": "Table check", "least_level": "Least level", "activity": "Activity", "fresh": "Fresh table",
+         "set": "Set", "insert": "Insertion", **READINGS, "read_file": "File reading"}
+BEYOND = "Exact reading beyond the table check"
+SIZES, TURNS = (1, 4, 8), 3
+LARGEST, LARGEST_FILE = "8 by 8, fully split", "8 by 8, all of level 3"
+
+# Callgrind counts each repetition of a rep instruction, so fills and copies are made without: by glibc, and in C.
+NO_REP = {
+    "GLIBC_TUNABLES": "glibc.cpu.x86_rep_stosb_threshold=1000000:glibc.cpu.x86_rep_movsb_threshold=1000000",
+}
+FLAGS = ("-O2", "-pthread", "-Wall", "-Wextra", "-Werror", "-mmemset-strategy=libcall:-1:noalign")
+PLAIN = tuple(sorted(map(str, HERE.glob("plain_*.c"))))
+
+
+class Measured(NamedTuple):
+    """One program's figures on one table by call: instructions, bytes of stack, and nanoseconds where timed."""
+
+    counts: Dict[str, int]
+    stacks: Dict[str, int]
+    times: Dict[str, float]
+
+
+class Figures(NamedTuple):
+    """The library's and the C program's figures by table, and the instructions of the corner program."""
+
+    library: Dict[str, Measured]
+    plain: Dict[str, Measured]
+    corners: int
+
+
+@lru_cache(maxsize=None)
+def tables() -> List[Tuple[str, samples.Table]]:
+    """Each table that is measured, by its name; the last is that of the file with the most coefficients."""
+    rng, made = Random(8), []
+    for n in SIZES:
+        flat = tuple((0,) * 32 for _ in range(32))
+        split = tuple(tuple((u % 2) + (v % 2) if u < 4 * n and v < 4 * n else 0 for u in range(32)) for v in range(32))
+        for name, levels in (("unrefined", flat), ("fully split", split)):
+            made.append((f"{n} by {n}, {name}", samples.table_of(rng, n, n, levels)))
+    rng, places, limit = Random(9), (8 * 8 + 3) ** 2, 32_000 * 64**3
+    numbers = [rng.randint(-limit, limit) for _ in range(places)]
+    return [*made, (LARGEST_FILE, samples.Table(8, 8, [3], [0] * (total_places(8, 8) - places) + numbers))]
+
+
+def table_names() -> Tuple[str, ...]:
+    return tuple(name for name, _ in tables())
+
+
+def calls_on(table: str) -> Tuple[str, ...]:
+    """The calls that are measured on a table: of that of the largest file only file reading."""
+    return ("read_file",) if table == LARGEST_FILE else tuple(CALLS)
+
+
+def counted_on(table: str) -> Tuple[str, ...]:
+    """What has a count on a table: its calls, and where all are made the exact reading beyond the table check."""
+    return calls_on(table) + (() if table == LARGEST_FILE else (BEYOND,))
+
+
+def told(t: samples.Table) -> str:
+    """A table and its file, as the program reads them."""
+    file = tablefile.write_file(*t)
+    return " ".join(map(str, [t.w, t.h, len(t.tree), *t.tree, len(t.coefficients), *t.coefficients, len(file), *file]))
+
+
+def built(name: str, *given: str) -> str:
+    subprocess.run(["gcc", *FLAGS, "-o", str(BUILT / name), str(HERE / "bench.c"), *given], check=True)
+    return f"./{name}"
+
+
+def programs() -> Tuple[str, str]:
+    """The program that makes the calls, linked with the library and with plain C."""
+    library = str(archive())
+    return built("bench_library", "-DPREFIX=kiln_", library), built("bench_plain", *PLAIN)
+
+
+def said(program: str, what: str, text: str, *call: str) -> Dict[str, float]:
+    """What the program prints of each call, or of one."""
+    command = [program, what, *call]
+    lines = subprocess.run(command, cwd=BUILT, input=text, capture_output=True, text=True, check=True).stdout
+    return {name: float(figure) for name, figure in (line.split() for line in lines.splitlines())}
+
+
+def counted(program: str, text: str, *call: str) -> Dict[str, int]:
+    """The instructions of each call, or of one, without those that it takes to be counted at all."""
+    counts: Dict[str, int] = {}
+    with tempfile.TemporaryDirectory() as room:
+        # The names and the environment are the same everywhere: their length moves the stack, and fills with it.
+        command = [which("valgrind"), "--tool=callgrind", f"--callgrind-out-file={room}/dump", program, "count", *call]
+        subprocess.run(command, cwd=BUILT, input=text, capture_output=True, text=True, check=True, env=NO_REP)
+        for dump in Path(room).iterdir():
+            words = dump.read_text()
+            name = re.search(r"^desc: Trigger: Client Request: (\w+)$", words, re.M)
+            if name:
+                counts[name.group(1)] = int(re.search(r"^summary: (\d+)$", words, re.M).group(1))
+    nothing = counts.pop("nothing")
+    counts = {name: count - nothing for name, count in counts.items()}
+    if not call:
+        counts[BEYOND] = counts["exact"] - counts["table_cause"]
+    return counts
+
+
+def timed(both: Tuple[str, str], text: str, *call: str) -> Tuple[Dict[str, float], ...]:
+    """The nanoseconds of each call, by program: the least of some turns, which the programs take one by one."""
+    least: Tuple[Dict[str, float], ...] = ({}, {})
+    for _ in range(TURNS):
+        for program, figures in zip(both, least):
+            for name, figure in said(program, "time", text, *call).items():
+                figures[name] = min(figure, figures.get(name, figure))
+    return least
+
+
+def corners(t: samples.Table) -> int:
+    """The instructions of the corner program on the file of a table, from start to end."""
+    subprocess.run(["rt", "check", "corners"], cwd=ROOT, check=True, stdout=subprocess.DEVNULL)
+    with tempfile.TemporaryDirectory() as room:
+        command = [which("valgrind"), "--tool=callgrind", f"--callgrind-out-file={room}/out", "target/bin/corners"]
+        run = subprocess.run(command, cwd=ROOT, input=tablefile.write_file(*t), capture_output=True, check=True,
+                             env=NO_REP)
+    return int(re.search(rb"refs:\s+([\d,]+)", run.stderr).group(1).replace(b",", b""))
+
+
+def all_figures(with_times: bool) -> Figures:
+    """All figures; the times are left out where they are not asked for."""
+    both, made = programs(), tables()
+    figures = Figures({}, {}, corners(dict(made)[LARGEST_FILE]))
+    for name, t in made:
+        only = calls_on(name) if name == LARGEST_FILE else ()
+        text = told(t)
+        times = timed(both, text, *only) if with_times else ({}, {})
+        for of, program, spent in zip((figures.library, figures.plain), both, times):
+            stacks = {call: int(n) for call, n in said(program, "stack", text, *only).items()}
+            of[name] = Measured(counted(program, text, *only), stacks, spent)
+    return figures
