@@ -44,15 +44,15 @@ LinkedAsPromised W H c m =
     KilnInsertPromise W H c (m .lent) (m .code) (m .treeLength₀) (m .treeLength) (m .tree) (m .numbers)
 
 -- "After an accepted insertion the table is the tree output up to the returned length, with the coefficients written;
--- after a refused one it is the table that was read." It was accepted if its code is 0, and the length returned is what
+-- after a refused one it is the table that was read." It was accepted if its code is 0; the returned length is what
 -- then stands at the length parameter.
 abbrev pub leftByLinked : Contents → LinkedMade → Contents
 leftByLinked c m = left c (answer (m .code) (m .treeLength)) (m .tree) (m .numbers)
 
 -- The codes and numerators of the exact reading at a point, before a list that starts from the table c, and after it.
 pub record LinkedReadingStays (W H : ℕ) (c : Contents) (u v code₀ : ℕ) (n₀ : ℤ) (code : ℕ) (n : ℤ) : Type 0 where
-  -- "After the list the exact reading at every point of the sheet equals that before the list": the codes are equal, on
-  -- the sheet or off it, and so are the numerators that come with a code of 0,
+  -- "After the list the exact reading at every point of the sheet equals that before the list": the codes are equal,
+  -- on the sheet or off it, and so are the numerators that come with a code of 0,
   pub sameCode : code ≡ code₀
   pub sameNumerator : code ≡ 0 → n ≡ n₀
   -- at a point of the sheet both codes are 0,
