@@ -1,1 +1,3 @@
 pub mod CodeLaws
+pub mod LinkedDemandThree
+pub mod LinkedBench

@@ -1,1 +1,4 @@
 pub mod Codes
+pub mod Promises
+pub mod LinkedDemandThree
+pub mod LinkedBench

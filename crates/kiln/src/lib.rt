@@ -3,11 +3,12 @@
 // written where it refuses. Buffers that are lent to one call must not overlap.
 ghost use mathlib.Core.Path.{_≡_};
 ghost use Rattle.surface.specs.Table.{tableCause};
-ghost use Rattle.surface.specs.Calls.{leastOutcome, activityOutcome, freshOutcome, insertOutcome, setOutcome};
+ghost use Rattle.surface.specs.Calls.{leastOutcome, activityOutcome, freshOutcome, setOutcome};
 ghost use Rattle.surface.specs.Calls.{exactOutcome, displayOutcome, costOutcome};
 ghost use Rattle.surface.specs.TableFile.{fileOutcome};
 ghost use Rattle.kiln.specs.Codes.{codeOf, NumberTold, LeastTold, WattsAfter};
 ghost use Rattle.kiln.specs.Codes.{SliceWritten, TableWritten, FileWritten};
+ghost use Rattle.kiln.specs.Promises.{KilnInsertPromise, KilnExactPromise};
 
 // The least level under a box: `level` receives it, `visited` the number of tree nodes visited.
 #[no_mangle]
@@ -94,9 +95,13 @@ pub extern "C" fn kiln_insert(
     numbers_out: &mut [i64],
     tree_length: &mut usize,
 ) -> u8
-    ensures { λ r. ⌜ TableWritten
-        (insertOutcome w h (now (tree .entry)) (now (numbers .entry)) (record { u0 = u0; v0 = v0; u1 = u1; v1 = v1 })
-        level (now («tree_out» .entry)) (now («numbers_out» .entry))) r
+    ensures { λ r. ⌜ KilnInsertPromise w h (record { tree = now (tree .entry); numbers = now (numbers .entry) })
+        (record {
+          box = record { u0 = u0; v0 = v0; u1 = u1; v1 = v1 };
+          level = level;
+          treeOut = now («tree_out» .entry);
+          numbersOut = now («numbers_out» .entry);
+        }) r
         (now («tree_length» .entry)) (now («tree_length» .exit))
         (now («tree_out» .exit)) (now («numbers_out» .exit)) ⌝ }
 {
@@ -163,7 +168,7 @@ pub extern "C" fn kiln_exact(
     v: usize,
     numerator: &mut i64,
 ) -> u8
-    ensures { λ r. ⌜ NumberTold (exactOutcome w h (now (tree .entry)) (now (numbers .entry)) u v) r
+    ensures { λ r. ⌜ KilnExactPromise w h (record { tree = now (tree .entry); numbers = now (numbers .entry) }) u v r
         (now (numerator .entry)) (now (numerator .exit)) ⌝ }
 {
     let r = readings::exact(w, h, tree, numbers, u, v);
