@@ -17,9 +17,9 @@ pub mod Bounds
 pub mod SupportLaws
 pub mod Selection
 pub mod TableLaws
+pub mod OneTree
 pub mod Insertion
 pub mod Around
-pub mod OneTree
 pub mod InsertionList
 pub mod Refusals
 pub mod Writers
