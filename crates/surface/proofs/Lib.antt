@@ -24,5 +24,6 @@ pub mod InsertionList
 pub mod Refusals
 pub mod Writers
 pub mod Demands
+pub mod BenchLaws
 pub mod Bench
 pub mod Unrefined

@@ -20,11 +20,11 @@ use Rattle.surface.specs.Carry.{carriedOver}
 use Rattle.surface.specs.Table.{cause, _orElse_, treeOf, formed, levels, places, start, slots, place}
 use Rattle.surface.specs.Table.{coefficients, limit, sliceOf, withinLimits, passiveZero, regionCause, tableCause}
 use Rattle.surface.specs.FloatReading.{FloatMeets}
-use Rattle.surface.specs.Calls.{Answer, refused, gives, answer, afterwards, put, written, lengthCause, treeOutCause}
-use Rattle.surface.specs.Calls.{pointCause, freshCause, freshOutcome, freshCoefficients, newLevels, newTree}
-use Rattle.surface.specs.Calls.{newCoefficients, insertCause, insertOutcome, setCause, setOutcome, activityBytes}
-use Rattle.surface.specs.Calls.{activityCause, activityOutcome, leastOutcome, readingCause, exactOutcome}
-use Rattle.surface.specs.Calls.{displayOutcome, costOutcome, indexFits, index}
+use Rattle.surface.specs.Calls.{Answer, refused, gives, answer, afterwards, put, written, lengthCause}
+use Rattle.surface.specs.Calls.{treeOutCause, pointCause, freshCause, freshOutcome, freshCoefficients}
+use Rattle.surface.specs.Calls.{newLevels, newTree, newCoefficients, insertCause, insertOutcome, setCause}
+use Rattle.surface.specs.Calls.{setOutcome, activityBytes, activityCause, activityOutcome, leastOutcome}
+use Rattle.surface.specs.Calls.{readingCause, exactOutcome, displayOutcome, costOutcome, indexFits, index}
 use Rattle.surface.specs.TableFile.{lengthAt, fieldOr, field, loaded, activeCount, allWithin, Loaded}
 use Rattle.surface.specs.TableFile.{File, declined, contains, fileOr, inField, levelFields, fileContents}
 use Rattle.surface.specs.TableFile.{fileOutcomeOf, fileOutcome}
