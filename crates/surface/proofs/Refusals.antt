@@ -234,7 +234,7 @@ exact-refusals W H t cs u v =
     sent (readingCause W H t cs u v) _ js (one-reading js refl refl refl refl refl refl W H t cs u v)
 
 -- an f64 reading is refused exactly where the exact one is, with its number
-float-refused : (o : Answer ℤ) (given : Answer Float) → FloatMeets o given → (n : ℕ)
+pub float-refused : (o : Answer ℤ) (given : Answer Float) → FloatMeets o given → (n : ℕ)
     → (given ≡ refused n) ↔ (o ≡ refused n)
 float-refused (refused m) (refused k) e n = (
   λ h. let s : k ≡ n = cc in ap refused (sym e ∙ s),
