@@ -1,37 +1,44 @@
 -- The bench sheet's starred cases: by computation and, where a case speaks of a reading, of every point or of
 -- thousands of functions, by the laws first. With them the further case that reads, WholeWattsPriced.
-use mathlib.Core.Path.{_≡_, refl, sym, ap, _∙_, subst}
-use mathlib.Core.Bool.{Bool, true, not, _&&_, _||_, cond}
+use mathlib.Core.Path.{_≡_, refl, ap, _∙_, subst}
+use mathlib.Core.Bool.{true, _&&_, cond}
 use mathlib.Core.List.{List, [], _∷_}
-use Prim.Native.Nat.{ℕ, _*_, _^_, _≤_}
+use Prim.Native.Nat.{ℕ, _*_, _^_, _≤_, _<_}
 use native.Mathlib.Nat.{le-refl, le-antisymm, one-le-pow, mul-comm, mul-left-comm}
+use native.Mathlib.Omega.{arith}
 use lib.IntN.{ℤ, pos, _*ℤ_}
-use lib.ListN.{replicate}
-use lib.Dec.{T, ltb, lit<, lit≤}
-use lib.Signed.{_≤ℤ_, leZ, leZ-yes}
-use borrow.Author.Tests.{eq-eqb}
-use Rattle.finite.specs.Range.{sum, every, least, grid}
+use lib.ListN.{length, replicate, length-replicate}
+use lib.Dec.{ltb, eqb, lit<, lit≤}
+use lib.Signed.{_≤ℤ_}
+use borrow.Author.Tests.{le-ltb, eq-eqb}
+use Rattle.finite.specs.Range.{sum, every, least, tableFrom, rowsFrom, total, count}
 use Rattle.finite.proofs.Order.{scale-reflects, ≤ℤ-antisym}
 use Rattle.finite.proofs.Table.{grid-cong, grid-const}
-use Rattle.surface.specs.Sheet.{eighths, onSheet}
-use Rattle.surface.specs.Quadtree.{parse, wellFormed, levelAt}
+use Rattle.finite.proofs.Tests.{total-cong, count-cong}
+use Rattle.surface.specs.Sheet.{goodSide, functions, eighths, onSheet}
+use Rattle.surface.specs.Quadtree.{parse, wellFormed, levelAt, visits}
 use Rattle.surface.specs.Support.{shares, leastUnder, active}
 use Rattle.surface.specs.Spline.{cellOf, piece}
 use Rattle.surface.specs.Truncation.{D}
 use Rattle.surface.specs.Patch.{patch, patchReading}
-use Rattle.surface.specs.Table.{levels, start, coefficients, withinLimits, passiveZero, regionCause}
-use Rattle.surface.specs.Table.{cause, tableCause, everywhere, Acceptable, tableReading}
-use Rattle.surface.specs.Calls.{gives, activityBytes, activityCause, activityOutcome, readingCause, exactOutcome}
-use Rattle.surface.specs.Calls.{answer, displayOutcome, costOutcome, wholeWatts, costOf}
+use Rattle.surface.specs.Table.{levels, places, start, coefficients, withinLimits, passiveZero}
+use Rattle.surface.specs.Table.{regionCause, cause, tableCause, Acceptable, tableReading}
+use Rattle.surface.specs.Calls.{gives, activityBytes, activityCause, activityOutcome, leastOutcome}
+use Rattle.surface.specs.Calls.{readingCause, exactOutcome, answer, displayOutcome, costOutcome, wholeWatts}
+use Rattle.surface.specs.Calls.{costOf}
+use Rattle.surface.specs.TableFile.{activeInRow, activeCount}
 use Rattle.surface.specs.Demands.{Around}
-use Rattle.surface.specs.Bench.{refined, S, flat, first, second, level700, Equal, Finest, BenchSheet}
+use Rattle.surface.specs.Bench.{rows, zeros, refined, columnsS, S, flat, first, second, columnsCarried}
+use Rattle.surface.specs.Bench.{carriedS, level700, ActivityIs, Equal, Finest, OneOnEight, BenchSheet}
 use Rattle.surface.specs.Cases.{halfWatt, WholeWattsPriced}
-use Rattle.surface.specs.Computed.{inserted, visited, two-by-one, trees, past}
-use Rattle.surface.proofs.Least.{both, leastUnder-le-3, le-leastWhere}
-use Rattle.surface.proofs.TableLaws.{everywhere-true, when-active}
+use Rattle.surface.specs.Computed.{inserted, visited, two-by-one}
+use Rattle.surface.proofs.Least.{leastUnder-le-3, le-leastWhere}
+use Rattle.surface.proofs.TableLaws.{formed-tree, place-in-slice, acceptable}
 use Rattle.surface.proofs.PatchReading.{patch-reading}
 use Rattle.surface.proofs.Around.{bracketed}
 use Rattle.surface.proofs.Demands.{reading-given}
+use Rattle.surface.proofs.BenchLaws.{eqZ, columns-by, everywhere-by, zero-coefficient, activity-is, tree-gives}
+use Rattle.surface.proofs.BenchLaws.{last-point, wide-least, wide-insert}
 
 -- a reading on the unrefined 1 by 1 sheet, by its patch
 read : (cs : List ℤ) (u v : ℕ) (n : ℤ) → readingCause 1 1 flat cs u v ≡ 0 → u ≤ 128 → v ≤ 128
@@ -42,41 +49,25 @@ read cs u v n e hu hv r =
 
 -- ---- every active coefficient 700 watts
 
--- a test of equality that computes
-eqZ : ℤ → ℤ → Bool
-eqZ x y = leZ x y && leZ y x
-
-eqZ-true : (x y : ℤ) → eqZ x y ≡ true → x ≡ y
-unfolding eqZ
-eqZ-true x y e =
-    let e2 = both (leZ x y) (leZ y x) e in
-    ≤ℤ-antisym (leZ-yes (subst T (sym (e2 .0)) tt)) (leZ-yes (subst T (sym (e2 .1)) tt))
-
 level700-acceptable : Acceptable 2 1 refined level700
 unfolding tableCause regionCause withinLimits passiveZero every leastUnder least eighths levels levelAt parse
     wellFormed
     start coefficients
 level700-acceptable = refl
 
--- each active coefficient of level L is 700×64^L, each other 0
-level700-test : everywhere 2 1
-    (λ L a b. not (active 2 1 (levels refined) L a b) || eqZ (coefficients 2 1 level700 L a b) (pos (700 * 64 ^ L)))
-    ≡ true
+-- each active coefficient of level L is 64^L×700, each other 0
+level700-every : (L a b : ℕ) → L < 4 → a < functions 2 L → b < functions 1 L
+    → coefficients 2 1 level700 L a b ≡ cond (active 2 1 (levels refined) L a b) (pos (64 ^ L * 700)) (pos 0)
 unfolding every leastUnder least eighths levels levelAt parse start coefficients eqZ
-level700-test = refl
+level700-every =
+    everywhere-by 2 1 (coefficients 2 1 level700)
+    (λ L a b. cond (active 2 1 (levels refined) L a b) (pos (64 ^ L * 700)) (pos 0)) refl
 
 level700-at : (u v : ℕ) (f : Around 2 1 refined u v)
-    → coefficients 2 1 level700 (f .L) (f .a) (f .b) ≡ pos (700 * 64 ^ (f .L))
-level700-at u v f =
-    eqZ-true (coefficients 2 1 level700 (f .L) (f .a) (f .b)) (pos (700 * 64 ^ (f .L)))
-    (when-active (active 2 1 (levels refined) (f .L) (f .a) (f .b))
-    (eqZ (coefficients 2 1 level700 (f .L) (f .a) (f .b)) (pos (700 * 64 ^ (f .L))))
-    (everywhere-true 2 1
-    (λ L a b. not (active 2 1 (levels refined) L a b) || eqZ (coefficients 2 1 level700 L a b) (pos (700 * 64 ^ L)))
-    level700-test (f .L) (f .a) (f .b) (f .level) (f .alongU) (f .alongV))
-    (f .isActive))
+    → coefficients 2 1 level700 (f .L) (f .a) (f .b) ≡ pos (64 ^ (f .L) * 700)
+level700-at u v f = level700-every (f .L) (f .a) (f .b) (f .level) (f .alongU) (f .alongV) ∙ rw (f .isActive)
 
--- 700×64^L over 64^L is 700
+-- 64^L×700 over 64^L is 700
 level700-reading : (u v : ℕ) → onSheet 2 1 u v ≡ true → tableReading 2 1 refined level700 u v ≡ pos (700 * D)
 level700-reading u v on =
     let b = bracketed 2 1 refined level700 level700-acceptable u v on in
@@ -92,7 +83,7 @@ level700-reading u v on =
         → pos D *ℤ coefficients 2 1 level700 (f .L) (f .a) (f .b) ≡ pos (64 ^ (f .L)) *ℤ pos (700 * D)
     value f =
         ap (λ x. pos D *ℤ x) (level700-at u v f)
-        ∙ ap pos (ap (λ x. D * x) (mul-comm 700 (64 ^ (f .L))) ∙ mul-left-comm D (64 ^ (f .L)) 700)
+        ∙ ap pos (mul-left-comm D (64 ^ (f .L)) 700 ∙ ap (λ x. 64 ^ (f .L) * x) (mul-comm D 700))
 
 level700-outcome : Equal
 unfolding exactOutcome readingCause
@@ -100,45 +91,122 @@ level700-outcome u v on = rw (level700-acceptable, on, level700-reading u v on)
 
 -- ---- a whole sheet of level 3
 
-level3 : (a b : ℕ) → active 8 8 (levels (3 ∷ [])) 3 a b ≡ true
+abbrev finest : List ℕ
+finest = 3 ∷ []
+
+least3 : (L a b : ℕ) → leastUnder 8 8 (levels finest) L a b ≡ 3
 unfolding leastUnder levels levelAt parse
-level3 a b =
-    eq-eqb (leastUnder 8 8 (levels (3 ∷ [])) 3 a b) 3
-    (le-antisymm (leastUnder-le-3 8 8 (levels (3 ∷ [])) 3 a b)
-    (le-leastWhere 8 8 3 (levels (3 ∷ [])) (λ q r. shares 8 3 a q && shares 8 3 b r) (le-refl 3)
-    (λ q r hq hr e. le-refl 3)))
+least3 L a b =
+    le-antisymm (leastUnder-le-3 8 8 (levels finest) L a b)
+    (le-leastWhere 8 8 3 (levels finest) (λ q r. shares 8 L a q && shares 8 L b r) (le-refl 3)
+    (λ q r hq hr e. le-refl 3))
+
+-- of a level all functions are active, or none
+activity3 : (L : ℕ) → L ≤ 3 → ActivityIs 8 8 finest L (replicate (places 8 8 L) (cond (eqb 3 L) 1 0))
+unfolding activityBytes regionCause parse wellFormed
+activity3 L h =
+    activity-is 8 8 finest L (replicate (places 8 8 L) (cond (eqb 3 L) 1 0)) refl h
+    (length-replicate (places 8 8 L) (cond (eqb 3 L) 1 0))
+    (grid-cong {A = ℕ} (functions 8 L) (functions 8 L) (λ a b. cond (active 8 8 (levels finest) L a b) 1 0)
+    (λ a b. cond (eqb 3 L) 1 0) (λ a b ha hb. rw (least3 L a b))
+    ∙ grid-const (functions 8 L) (functions 8 L) (cond (eqb 3 L) 1 0))
+
+counts3 : (L : ℕ) → activeCount 8 8 (levels finest) L
+    ≡ total (functions 8 L) (λ b. count (functions 8 L) (λ a. eqb 3 L))
+unfolding activeCount activeInRow
+counts3 L =
+    total-cong (functions 8 L) _ (λ b. count (functions 8 L) (λ a. eqb 3 L))
+    (λ b _. count-cong (functions 8 L) _ (λ a. eqb 3 L) (λ a _. rw (least3 L a b)))
 
 level3-activity : Finest
-unfolding activityOutcome activityCause activityBytes regionCause parse wellFormed
-level3-activity out e =
-    let same : grid {A = ℕ} 67 67 (λ a b. cond (active 8 8 (levels (3 ∷ [])) 3 a b) 1 0) ≡ replicate 4489 1 =
-    grid-cong {A = ℕ} 67 67 (λ a b. cond (active 8 8 (levels (3 ∷ [])) 3 a b) 1 0) (λ a b. 1)
-    (λ a b ha hb. rw (level3 a b))
-    ∙ grid-const 67 67 1 in
-    rw (e, same)
+unfolding tableFrom total count
+level3-activity = (
+  rw (counts3 0, counts3 1, counts3 2, counts3 3),
+  activity3 0 (lit≤ tt),
+  activity3 1 (lit≤ tt),
+  activity3 2 (lit≤ tt),
+  activity3 3 (lit≤ tt),
+)
+
+-- ---- trees
+
+bad-tree : (W H : ℕ) → goodSide W ≡ true → goodSide H ≡ true → regionCause W H (4 ∷ 0 ∷ 0 ∷ 0 ∷ 0 ∷ []) ≡ 2
+unfolding regionCause parse wellFormed
+bad-tree W H w h = rw (w, h)
+
+one-on-eight : OneOnEight
+unfolding leastOutcome activityOutcome activityCause regionCause parse wellFormed levels levelAt least visits start
+one-on-eight = (
+  refl,
+  λ L out h e. rw (le-ltb 3 L h, eq-eqb (length out) (places 8 8 L) e),
+  acceptable 8 8 (1 ∷ []) (zeros 6196) (record {
+    side-W = refl;
+    side-H = refl;
+    tree = formed-tree 8 8 (1 ∷ []) refl;
+    size = length-replicate 6196 (pos 0);
+    limits = λ L a b hL ha hb _.
+        rw (zero-coefficient 8 8 6196 L a b (place-in-slice 8 8 L a b hL ha hb)) (omega arith);
+    passive = λ L a b hL ha hb _. zero-coefficient 8 8 6196 L a b (place-in-slice 8 8 L a b hL ha hb);
+  }),
+)
 
 -- ---- the table
 
 pub bench-sheet : BenchSheet
 unfolding readingCause tableCause regionCause withinLimits passiveZero every leastUnder least eighths levels levelAt
     parse
-    wellFormed start coefficients patchReading patch sum cellOf piece
+    wellFormed start coefficients patchReading patch sum cellOf piece eqZ activityBytes tableFrom rowsFrom activeCount
+    activeInRow total count
 bench-sheet =
     record {
-      slope = read S 64 5 (pos 79164837199872000) refl (lit≤ tt) (lit≤ tt) refl;
+      columnsOfS = columns-by 1 1 S 0 columnsS refl;
+      slope = (read S 64 5 (pos 79164837199872000) refl (lit≤ tt) (lit≤ tt) refl, refl);
       corners = (
+        everywhere-by 1 1 (coefficients 1 1 first) _ refl,
         read first 0 0 (pos (2 ^ 42)) refl (lit≤ tt) (lit≤ tt) refl,
         read first 128 128 (pos 0) refl (lit≤ tt) (lit≤ tt) refl,
       );
-      nextCorner = read second 0 0 (pos (2 ^ 46)) refl (lit≤ tt) (lit≤ tt) refl;
+      nextCorner = (
+        everywhere-by 1 1 (coefficients 1 1 second) _ refl,
+        read second 0 0 (pos (2 ^ 46)) refl (lit≤ tt) (lit≤ tt) refl,
+      );
       inserted = inserted;
+      columnsInserted = columns-by 1 1 carriedS 1 columnsCarried refl;
+      allOfLevelOne = (
+        refl,
+        activity-is 1 1 refined 0 (replicate 16 0) refl (lit≤ tt) refl refl,
+        activity-is 1 1 refined 1 (replicate 25 1) refl (lit≤ tt) refl refl,
+        activity-is 1 1 refined 2 (replicate 49 0) refl (lit≤ tt) refl refl,
+        activity-is 1 1 refined 3 (replicate 121 0) refl (lit≤ tt) refl refl,
+      );
       visited = visited;
       twoByOne = two-by-one;
+      sixteenAndTen = (
+        refl,
+        activity-is 2 1 refined 0 (rows 4 (0 ∷ replicate 4 1)) refl (lit≤ tt) refl refl,
+        activity-is 2 1 refined 1 (rows 5 (1 ∷ 1 ∷ replicate 5 0)) refl (lit≤ tt) refl refl,
+        activity-is 2 1 refined 2 (replicate 77 0) refl (lit≤ tt) refl refl,
+        activity-is 2 1 refined 3 (replicate 209 0) refl (lit≤ tt) refl refl,
+      );
+      every700 = (refl, level700-every);
       equal = level700-outcome;
       finest = level3-activity;
-      trees = trees;
-      lastPoint = read S 128 5 (pos (1000 * D)) refl (lit≤ tt) (lit≤ tt) refl;
-      past = past;
+      trees = (
+        λ W H w h. tree-gives W H (4 ∷ 0 ∷ 0 ∷ 0 ∷ 0 ∷ []) 1 (bad-tree W H w h),
+        tree-gives 1 1 (1 ∷ []) 1 refl,
+      );
+      oneOnEight = one-on-eight;
+      lastPoints = (
+        last-point,
+        read S 128 5 (pos (1000 * D)) refl (lit≤ tt) (lit≤ tt) refl,
+        last-point flat S refl .exactPast 5,
+      );
+      wideBox = (
+        wide-least,
+        wide-insert,
+        wide-least flat refl,
+        wide-insert flat S 1 (replicate 14 9) (replicate 211 (pos 9)) refl,
+      );
     }
 
 -- ---- whole watts and their cost

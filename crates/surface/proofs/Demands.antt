@@ -6,7 +6,7 @@ use Prim.Native.Nat.{ℕ, _+_, _*_, _≤_, max}
 use native.Mathlib.Omega.{arith}
 use lib.IntN.{ℤ, natAbs, _+ℤ_, _*ℤ_}
 use lib.Dec.{ltb}
-use lib.ListN.{length, getD}
+use lib.ListN.{getD}
 use Rattle.surface.specs.Sheet.{goodSide, functions, onSheet}
 use Rattle.surface.specs.Support.{active, inBox}
 use Rattle.surface.specs.Spline.{cellOf}
@@ -17,7 +17,6 @@ use Rattle.surface.specs.Calls.{afterwards, lengthCause}
 use Rattle.surface.specs.Demands.{SelectionRule, InsertionRaises, OneTree, LinearReadings, Bracketed}
 use Rattle.surface.specs.Demands.{BracketedReadings, afterAll, RefinementMovesNoReading, ReadingFits}
 use Rattle.surface.specs.Demands.{PatchEvaluates, TwoScale}
-use Rattle.surface.proofs.TreeBytes.{tree-length}
 use Rattle.surface.proofs.TreeLevels.{levelAt-le}
 use Rattle.surface.proofs.SplineCell.{cell-inside}
 use Rattle.surface.proofs.TwoScaleSum.{two-scale-sum, whole-step}
@@ -39,7 +38,7 @@ use Rattle.finite.proofs.Table.{getD-grid}
 use borrow.Author.Tests.{ltb-false}
 use Rattle.surface.proofs.Refusals.{answer-gives, cause-off}
 use Rattle.surface.proofs.Around.{on-sheet, bracketed, fits}
-use Rattle.surface.proofs.OneTree.{same-tree, slice-bytes}
+use Rattle.surface.proofs.OneTree.{same-tree, one-tree-for}
 use Rattle.surface.proofs.InsertionList.{accepted, step-cases, all-keep}
 
 -- the exact reading is given on acceptable tables and points of the sheet
@@ -122,16 +121,9 @@ not-truncated = untruncated
 pub two-scale : TwoScale
 two-scale n L a u p l h = (two-scale-sum n L a u p l h, whole-step L l)
 
--- ---- one tree
-
+-- "So one set of regions has one tree, of 1 to 1,365 bytes."
 pub one-tree-each : OneTree
-one-tree-each W H hW hH s t fs ft =
-    let f = formed-tree W H s fs in
-    let g = formed-tree W H t ft in (
-      subst (λ l. (1 ≤ length l) × (length l ≤ 1365)) (sym (slice-bytes W H t g))
-          (tree-length W H 0 0 (g .tree) (g .shape)),
-      λ e. same-tree W H hW hH s t f g e,
-    )
+one-tree-each = one-tree-for
 
 -- ---- linearity
 

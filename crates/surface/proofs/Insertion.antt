@@ -2,24 +2,22 @@
 use mathlib.Core.Path.{_≡_, refl, sym, ap, _∙_, subst}
 use mathlib.Core.Logic.{_⊎_, inl, inr}
 use mathlib.Core.Bool.{true, _&&_, cond}
-use mathlib.Core.List.{List, [], append-nil}
+use mathlib.Core.List.{List}
 use Prim.Native.Nat.{ℕ, zero, suc, _+_, _-_, _*_, _^_, _≤_, _<_, max}
-use native.Mathlib.Nat.{zero-add, mul-left-comm, one-le-pow, le-trans, le-of-eq}
+use native.Mathlib.Nat.{mul-left-comm, one-le-pow, le-trans, le-of-eq}
 use native.Mathlib.Decide.{decLe}
 use native.Mathlib.Omega.{arith}
 use lib.IntN.{ℤ, pos, negℤ, natAbs, _*ℤ_}
-use lib.Dec.{leb, ltb, eqb, lit<, lit≤}
+use lib.Dec.{leb, ltb, eqb, lit<}
 use borrow.Author.Tests.{ltb-true, eqb-true, eq-eqb, ne-eqb}
 use Rattle.surface.specs.Sheet.{Box, functions, quarters}
-use Rattle.surface.specs.Quadtree.{Quadtree, found, bytes, parse, wellFormed, regionTree}
 use Rattle.surface.specs.Support.{leastUnder, inBox}
 use Rattle.surface.specs.Carry.{carried, carriedOver}
 use Rattle.surface.specs.Table.{levels, coefficients, limit, tableReading}
 use Rattle.surface.specs.Calls.{newLevels, newTree, newCoefficients}
-use Rattle.surface.proofs.TreeBytes.{parse-bytes}
-use Rattle.surface.proofs.TreeLevels.{levelAt-regionTree, regionTree-ext, regionTree-wellFormed, levelAt-le}
-use Rattle.surface.proofs.TreeLevels.{levelAt-beyond}
-use Rattle.surface.proofs.Least.{both, pick, lts-true, lts-intro, leastUnder-cong, leastUnder-raise}
+use Rattle.surface.proofs.TreeLevels.{levelAt-le, levelAt-beyond}
+use Rattle.surface.proofs.OneTree.{region-formed, region-levels}
+use Rattle.surface.proofs.Least.{both, pick, leastUnder-cong, leastUnder-raise}
 use Rattle.surface.proofs.TableLaws.{Formed, levels-of, Sound, sides, slice-length, slice-coefficient}
 use Rattle.surface.proofs.Carried.{carried-own}
 use Rattle.surface.proofs.Linear.{reading-cong}
@@ -40,10 +38,6 @@ in-box b q r e =
 
 module _ (W H : ℕ) (t : List ℕ) (f : Formed W H t) (hW : W ≤ 8) (hH : H ≤ 8) (box : Box) (n : ℕ) (hn : n ≤ 3)
     (hu : box .u1 ≤ quarters W) (hv : box .v1 ≤ quarters H) where
-  -- the levels after the insertion, on the square of the tree; beyond it there is nothing
-  clipped : ℕ → ℕ → ℕ
-  clipped q r = cond (ltb q 32 && ltb r 32) (newLevels t box n q r) 0
-
   old-le : (q r : ℕ) → levels t q r ≤ 3
   old-le q r = rw (levels-of W H t f q r) (levelAt-le W H 5 0 0 (f .tree) q r (f .shape))
 
@@ -66,45 +60,14 @@ module _ (W H : ℕ) (t : List ℕ) (f : Formed W H t) (hW : W ≤ 8) (hH : H �
       from-corner (inl h) = inl (omega arith)
       from-corner (inr h) = inr (omega arith)
 
-  clipped-inside : (q r : ℕ) → q < 32 → r < 32 → clipped q r ≡ newLevels t box n q r
-  unfolding clipped
-  clipped-inside q r hq hr = rw (lts-intro q 32 r 32 hq hr)
-
-  -- of a level of the square what holds of the new levels there, and of 0
-  clipped-cases : (P : ℕ → Type 0) (q r : ℕ) → (q < 32 → r < 32 → P (newLevels t box n q r)) → P 0 → P (clipped q r)
-  unfolding clipped
-  clipped-cases P q r h z =
-      pick (ltb q 32 && ltb r 32) (λ b. P (cond b (newLevels t box n q r) 0))
-      (λ e. let i = lts-true q 32 r 32 e in h (i .0) (i .1)) (λ _. z)
-
-  pub newRegions : Quadtree
-  newRegions = regionTree 5 0 0 (newLevels t box n)
-
+  -- the new tree is of the form and has the raised levels
   pub new-formed : Formed W H (newTree t box n)
-  unfolding newRegions newTree
-  new-formed =
-      let shape : wellFormed W H 5 0 0 newRegions ≡ true =
-      subst (λ q. wellFormed W H 5 0 0 q ≡ true)
-      (regionTree-ext 5 0 0 clipped (newLevels t box n)
-      (λ q r hq hr. clipped-inside (0 + q) (0 + r) (omega arith) (omega arith)))
-      (regionTree-wellFormed W H 5 0 0 clipped
-      (λ q r. clipped-cases (λ l. l ≤ 3) q r (λ _ _. new-le q r) (lit≤ tt))
-      (λ q r h. clipped-cases (λ l. l ≡ 0) q r (λ hq hr. new-beyond q r hq hr (inl h)) refl)
-      (λ q r h. clipped-cases (λ l. l ≡ 0) q r (λ hq hr. new-beyond q r hq hr (inr h)) refl)) in
-      record {
-        tree = newRegions;
-        whole = subst (λ l. parse 5 l ≡ found newRegions []) (append-nil (bytes newRegions))
-            (parse-bytes W H 5 0 0 newRegions [] shape);
-        shape = shape;
-      }
+  unfolding newTree
+  new-formed = region-formed W H hW hH (newLevels t box n) new-le new-beyond
 
-  -- the new tree has the raised levels
   pub new-levels : (q r : ℕ) → q < quarters W → r < quarters H → levels (newTree t box n) q r ≡ newLevels t box n q r
-  unfolding newRegions newTree new-formed
-  new-levels q r hq hr =
-      levels-of W H (newTree t box n) new-formed q r
-      ∙ levelAt-regionTree 5 0 0 (newLevels t box n) q r (omega arith) (omega arith)
-      ∙ rw (zero-add q, zero-add r)
+  unfolding newTree
+  new-levels = region-levels W H hW hH (newLevels t box n) new-le new-beyond
 
 -- a coefficient within its limit, in units of level 3, is at most 32,000×64^3 in size, and the other way round
 limit-scaled : (n L : ℕ) → n + L ≡ 3 → 64 ^ n * limit L ≡ limit 3

@@ -17,12 +17,13 @@ pub mod Bounds
 pub mod SupportLaws
 pub mod Selection
 pub mod TableLaws
+pub mod OneTree
 pub mod Insertion
 pub mod Around
-pub mod OneTree
 pub mod InsertionList
 pub mod Refusals
 pub mod Writers
 pub mod Demands
+pub mod BenchLaws
 pub mod Bench
 pub mod Unrefined

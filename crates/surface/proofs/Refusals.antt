@@ -1,12 +1,14 @@
 -- Demand 1 of the outcomes: each refusal has one of the call's numbers and leaves all lent memory, and no output
 -- changes its length.
 use mathlib.Core.Path.{_≡_, refl, sym, ap, _∙_, subst}
+use mathlib.Core.Logic.{_↔_}
 use mathlib.Core.Bool.{Bool, true, false, not, _&&_, _||_, cond}
 use mathlib.Core.List.{List, [], _∷_, _++_}
 use Prim.Native.Nat.{ℕ, zero, suc, _+_, _-_, _*_, _≤_, _<_}
 use native.Mathlib.Nat.{mul-comm}
 use native.Mathlib.Omega.{arith}
 use lib.IntN.{ℤ, natAbs}
+use lib.Ieee.{Float}
 use lib.Dec.{leb, ltb, eqb, eqb·suc-zero}
 use borrow.Author.Tests.{ltb-false, eqb-true}
 use lib.ListN.{length, getD, drop, take, set, length-append, length-drop, length-set}
@@ -17,11 +19,12 @@ use Rattle.surface.specs.Support.{active}
 use Rattle.surface.specs.Carry.{carriedOver}
 use Rattle.surface.specs.Table.{cause, _orElse_, treeOf, formed, levels, places, start, slots, place}
 use Rattle.surface.specs.Table.{coefficients, limit, sliceOf, withinLimits, passiveZero, regionCause, tableCause}
-use Rattle.surface.specs.Calls.{refused, gives, answer, afterwards, put, written, lengthCause, treeOutCause}
-use Rattle.surface.specs.Calls.{pointCause, freshCause, freshOutcome, freshCoefficients, newLevels, newTree}
-use Rattle.surface.specs.Calls.{newCoefficients, insertCause, insertOutcome, setCause, setOutcome, activityBytes}
-use Rattle.surface.specs.Calls.{activityCause, activityOutcome, leastOutcome, readingCause, exactOutcome}
-use Rattle.surface.specs.Calls.{displayOutcome, costOutcome, indexFits, index}
+use Rattle.surface.specs.FloatReading.{FloatMeets}
+use Rattle.surface.specs.Calls.{Answer, refused, gives, answer, afterwards, put, written, lengthCause}
+use Rattle.surface.specs.Calls.{treeOutCause, pointCause, freshCause, freshOutcome, freshCoefficients}
+use Rattle.surface.specs.Calls.{newLevels, newTree, newCoefficients, insertCause, insertOutcome, setCause}
+use Rattle.surface.specs.Calls.{setOutcome, activityBytes, activityCause, activityOutcome, leastOutcome}
+use Rattle.surface.specs.Calls.{readingCause, exactOutcome, displayOutcome, costOutcome, indexFits, index}
 use Rattle.surface.specs.TableFile.{lengthAt, fieldOr, field, loaded, activeCount, allWithin, Loaded}
 use Rattle.surface.specs.TableFile.{File, declined, contains, fileOr, inField, levelFields, fileContents}
 use Rattle.surface.specs.TableFile.{fileOutcomeOf, fileOutcome}
@@ -221,6 +224,29 @@ activity-refusals W H t L out =
     ∙ sym (eqb-true (length out) (places W H L)
     (cause-none 15 b16 (orElse-none c8 c16 (orElse-none c0 (c8 orElse c16) e .1) .1))))
 
+-- ---- the readings
+
+exact-refusals : (W H : ℕ) (t : List ℕ) (cs : List ℤ) (u v : ℕ)
+    → RefusesWith (1 ∷ 2 ∷ 3 ∷ 4 ∷ 5 ∷ 6 ∷ []) (exactOutcome W H t cs u v)
+unfolding exactOutcome
+exact-refusals W H t cs u v =
+    let js : List ℕ = 1 ∷ 2 ∷ 3 ∷ 4 ∷ 5 ∷ 6 ∷ [] in
+    sent (readingCause W H t cs u v) _ js (one-reading js refl refl refl refl refl refl W H t cs u v)
+
+-- an f64 reading is refused exactly where the exact one is, with its number
+pub float-refused : (o : Answer ℤ) (given : Answer Float) → FloatMeets o given → (n : ℕ)
+    → (given ≡ refused n) ↔ (o ≡ refused n)
+float-refused (refused m) (refused k) e n = (
+  λ h. let s : k ≡ n = cc in ap refused (sym e ∙ s),
+  λ h. let s : m ≡ n = cc in ap refused (e ∙ s),
+)
+float-refused (refused m) (gives x) e n = absurd e
+float-refused (gives y) (refused k) e n = absurd e
+float-refused (gives y) (gives x) e n = (
+  λ h. absurd (let z : _≡_ {A = ℕ} 0 1 = cc in omega arith),
+  λ h. absurd (let z : _≡_ {A = ℕ} 0 1 = cc in omega arith),
+)
+
 -- ---- the file
 
 abbrev js-file : List ℕ
@@ -331,9 +357,10 @@ refusals =
           let js : List ℕ = 1 ∷ 2 ∷ 7 ∷ [] in
           sent (regionCause W H t orElse cause 7 b7) _ js
           (one-or (regionCause W H t) (cause 7 b7) js (one-region js refl refl W H t) (one-cause 7 b7 js refl));
-      exact = λ W H t cs u v.
-          let js : List ℕ = 1 ∷ 2 ∷ 3 ∷ 4 ∷ 5 ∷ 6 ∷ [] in
-          sent (readingCause W H t cs u v) _ js (one-reading js refl refl refl refl refl refl W H t cs u v);
+      exact = exact-refusals;
+      watts = λ W H t cs u v given m.
+          let same = float-refused (exactOutcome W H t cs u v) given m in
+          (λ n e. exact-refusals W H t cs u v n (same n .0 e), same);
       display = λ W H t cs u v.
           let js : List ℕ = 1 ∷ 2 ∷ 3 ∷ 4 ∷ 5 ∷ 6 ∷ [] in
           sent (readingCause W H t cs u v) _ js (one-reading js refl refl refl refl refl refl W H t cs u v);

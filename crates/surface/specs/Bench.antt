@@ -1,13 +1,21 @@
 -- Document 01, "Bench sheet": the cases marked * as one table about the outcomes. Proved in proofs/Bench.antt.
 use mathlib.Core.Path.{_≡_}
-use mathlib.Core.Bool.{true}
+use mathlib.Core.Bool.{true, _&&_, cond}
 use mathlib.Core.List.{List, [], _∷_, _++_}
-use Prim.Native.Nat.{ℕ, zero, suc, _*_, _^_}
+use Prim.Native.Nat.{ℕ, zero, suc, _*_, _^_, _≤_, _<_}
 use lib.IntN.{ℤ, pos, negℤ}
-use lib.ListN.{length, replicate}
-use Rattle.surface.specs.Sheet.{Box, onSheet}
+use lib.Dec.{eqb}
+use lib.Ieee.{Float}
+use lib.ListN.{length, getD, replicate}
+use Rattle.finite.specs.Range.{tableFrom}
+use Rattle.surface.specs.Sheet.{Box, goodSide, functions, onSheet}
+use Rattle.surface.specs.Support.{active}
 use Rattle.surface.specs.Truncation.{D}
-use Rattle.surface.specs.Calls.{refused, gives, insertOutcome, activityOutcome, leastOutcome, exactOutcome}
+use Rattle.surface.specs.Table.{levels, places, coefficients, regionCause, Acceptable, tableReading}
+use Rattle.surface.specs.Calls.{Answer, refused, gives, insertOutcome, setOutcome, index, activityOutcome}
+use Rattle.surface.specs.Calls.{leastOutcome, exactOutcome, displayOutcome, costOutcome, wholeWatts, costOf}
+use Rattle.surface.specs.FloatReading.{Near, FloatMeets}
+use Rattle.surface.specs.TableFile.{activeCount}
 
 -- ---- the tables
 
@@ -21,8 +29,11 @@ zeros n = replicate n (pos 0)
 
 -- "S is 1 by 1 with level 0 columns −1,000, 0, 1,000, 2,000 (i = −3 to 0), equal in all rows." The finer levels have
 -- 25 + 49 + 121 places.
+abbrev pub columnsS : List ℤ
+columnsS = negℤ (pos 1000) ∷ pos 0 ∷ pos 1000 ∷ pos 2000 ∷ []
+
 abbrev pub S : List ℤ
-S = rows 4 (negℤ (pos 1000) ∷ pos 0 ∷ pos 1000 ∷ pos 2000 ∷ []) ++ zeros 195
+S = rows 4 columnsS ++ zeros 195
 
 -- "only (−3, −3) is 1" and "Only (−2, −2) is 1"
 abbrev pub first : List ℤ
@@ -32,10 +43,11 @@ abbrev pub second : List ℤ
 second = zeros 5 ++ (pos 1 ∷ zeros 205)
 
 -- "columns −32,000, 0, 32,000, 64,000, 96,000" at level 1
+abbrev pub columnsCarried : List ℤ
+columnsCarried = negℤ (pos 32000) ∷ pos 0 ∷ pos 32000 ∷ pos 64000 ∷ pos 96000 ∷ []
+
 abbrev pub carriedS : List ℤ
-carriedS =
-    zeros 16
-    ++ (rows 5 (negℤ (pos 32000) ∷ pos 0 ∷ pos 32000 ∷ pos 64000 ∷ pos 96000 ∷ []) ++ zeros 170)
+carriedS = zeros 16 ++ (rows 5 columnsCarried ++ zeros 170)
 
 -- 2 by 1, level 0 all 700 watts; and "every active coefficient 700 watts (44,800 at level 1)" over the refined tree
 abbrev pub flat700 : List ℤ
@@ -56,78 +68,188 @@ box p q r s = record { u0 = p; v0 = q; u1 = r; v1 = s }
 abbrev pub refined : List ℕ
 refined = 4 ∷ 4 ∷ 4 ∷ 1 ∷ replicate 9 0
 
+-- ---- what a line says of a table
+
+-- "columns ..., equal in all rows": function (a, b) of level L has the a-th coefficient of the row, whatever b is.
+abbrev pub Columns : ℕ → ℕ → List ℤ → ℕ → List ℤ → Type 0
+Columns W H cs L row =
+    (a b : ℕ) → a < functions W L → b < functions H L → coefficients W H cs L a b ≡ getD row a (pos 0)
+
+-- "only (i, j) is 1", on 1 by 1: of all levels' coefficients it is that of function (i, j) of level 0 alone.
+abbrev pub OnlyOne : List ℤ → ℤ → ℤ → Type 0
+OnlyOne cs i j =
+    (L a b : ℕ) → L < 4 → a < functions 1 L → b < functions 1 L
+    → coefficients 1 1 cs L a b ≡ cond (eqb L 0 && eqb a (index i) && eqb b (index j)) (pos 1) (pos 0)
+
+-- How many functions of levels 0, 1, 2 and 3 are active under a tree.
+abbrev pub activeCounts : ℕ → ℕ → List ℕ → List ℕ
+activeCounts W H t = tableFrom 0 4 (activeCount W H (levels t))
+
+-- The activity call gives these bytes of level L, whatever an output of their length held.
+abbrev pub ActivityIs : ℕ → ℕ → List ℕ → ℕ → List ℕ → Type 0
+ActivityIs W H t L bytes =
+    (out : List ℕ) → length out ≡ length bytes
+    → activityOutcome W H t L out ≡ record { result = gives tt; after = bytes }
+
+-- Every call that is lent this tree gives this number, whatever else it is lent, and leaves that as it was.
+pub record TreeGives (W H : ℕ) (t : List ℕ) (n : ℕ) : Type 0 where
+  pub least : (b : Box) → leastOutcome W H t b ≡ refused n
+  pub activity : (L : ℕ) (out : List ℕ) → activityOutcome W H t L out ≡ record { result = refused n; after = out }
+  pub insert : (cs : List ℤ) (b : Box) (level : ℕ) (treeOut : List ℕ) (numbersOut : List ℤ)
+      → insertOutcome W H t cs b level treeOut numbersOut
+      ≡ record { result = refused n; tree = treeOut; numbers = numbersOut }
+  pub set : (cs : List ℤ) (L : ℕ) (i j number : ℤ)
+      → setOutcome W H t cs L i j number ≡ record { result = refused n; after = cs }
+  pub exact : (cs : List ℤ) (u v : ℕ) → exactOutcome W H t cs u v ≡ refused n
+  pub watts : (cs : List ℤ) (u v : ℕ) (given : Answer Float) → FloatMeets (exactOutcome W H t cs u v) given
+      → given ≡ refused n
+  pub display : (cs : List ℤ) (u v : ℕ) → displayOutcome W H t cs u v ≡ refused n
+  pub cost : (cs : List ℤ) (u v tariff : ℕ) → costOutcome W H t cs u v tariff ≡ refused n
+
 -- ---- the cases
+
+-- "S is 1 by 1 with level 0 columns −1,000, 0, 1,000, 2,000 (i = −3 to 0), equal in all rows."
+abbrev pub ColumnsOfS : Type 0
+ColumnsOfS = Columns 1 1 S 0 columnsS
 
 -- "S at (64, 5): numerator 500×D = 79,164,837,199,872,000"
 abbrev pub Slope : Type 0
-Slope = exactOutcome 1 1 flat S 64 5 ≡ gives (pos 79164837199872000)
+Slope = (exactOutcome 1 1 flat S 64 5 ≡ gives (pos 79164837199872000)) × (500 * D ≡ 79164837199872000)
 
 -- "1 by 1, only (−3, −3) is 1: at (0, 0) 2^42, at (128, 128) 0"
 abbrev pub Corners : Type 0
 Corners =
-    (exactOutcome 1 1 flat first 0 0 ≡ gives (pos (2 ^ 42))) × (exactOutcome 1 1 flat first 128 128 ≡ gives (pos 0))
+    OnlyOne first (negℤ (pos 3)) (negℤ (pos 3))
+    × (exactOutcome 1 1 flat first 0 0 ≡ gives (pos (2 ^ 42)))
+    × (exactOutcome 1 1 flat first 128 128 ≡ gives (pos 0))
 
 -- "Only (−2, −2) is 1: at (0, 0) 2^46"
 abbrev pub NextCorner : Type 0
-NextCorner = exactOutcome 1 1 flat second 0 0 ≡ gives (pos (2 ^ 46))
+NextCorner =
+    OnlyOne second (negℤ (pos 2)) (negℤ (pos 2)) × (exactOutcome 1 1 flat second 0 0 ≡ gives (pos (2 ^ 46)))
 
--- "S, level 1 box 0,0 to 4,4: tree 4 4 4 1 and nine 0; 25 active, columns −32,000, 0, 32,000, 64,000, 96,000". The
--- lent tree output has a byte more, which stays.
+-- "S, level 1 box 0,0 to 4,4: tree 4 4 4 1 and nine 0", 13 bytes, which the call returns; the lent tree output has a
+-- byte more, which stays.
 abbrev pub Inserted : Type 0
 Inserted =
-    (insertOutcome 1 1 flat S (box 0 0 4 4) 1 (replicate 14 9) (replicate 211 (pos 9))
-    ≡ record { result = gives 13; tree = refined ++ (9 ∷ []); numbers = carriedS })
-    × (activityOutcome 1 1 refined 1 (replicate 25 9) ≡ record { result = gives tt; after = replicate 25 1 })
+    insertOutcome 1 1 flat S (box 0 0 4 4) 1 (replicate 14 9) (replicate 211 (pos 9))
+    ≡ record { result = gives 13; tree = refined ++ (9 ∷ []); numbers = carriedS }
+
+-- "columns −32,000, 0, 32,000, 64,000, 96,000": of level 1; the other levels' places hold 0, as their slice shows.
+abbrev pub ColumnsInserted : Type 0
+ColumnsInserted = Columns 1 1 carriedS 1 columnsCarried
+
+-- "25 active": all of level 1, and none of another level
+abbrev pub AllOfLevelOne : Type 0
+AllOfLevelOne =
+    (activeCounts 1 1 refined ≡ 0 ∷ 25 ∷ 0 ∷ 0 ∷ [])
+    × ActivityIs 1 1 refined 0 (replicate 16 0)
+    × ActivityIs 1 1 refined 1 (replicate 25 1)
+    × ActivityIs 1 1 refined 2 (replicate 49 0)
+    × ActivityIs 1 1 refined 3 (replicate 121 0)
 
 -- "That tree, box 0,0 to 4,4: least level 1, 4 nodes"
 abbrev pub Visited : Type 0
 Visited = leastOutcome 1 1 refined (box 0 0 4 4) ≡ gives (record { level = 1; visited = 4 })
 
--- "2 by 1, the same box: 16 active at level 0, 10 at level 1. Box 0,0 to 8,4: least level 0, 5 nodes"
+-- "2 by 1, the same box": the insertion; "Box 0,0 to 8,4: least level 0, 5 nodes"
 abbrev pub TwoByOne : Type 0
 TwoByOne =
     (insertOutcome 2 1 flat flat700 (box 0 0 4 4) 1 (replicate 13 9) (replicate 341 (pos 9))
     ≡ record { result = gives 13; tree = refined; numbers = level700 })
-    × (activityOutcome 2 1 refined 0 (replicate 20 9)
-    ≡ record { result = gives tt; after = rows 4 (0 ∷ replicate 4 1) })
-    × (activityOutcome 2 1 refined 1 (replicate 35 9)
-    ≡ record { result = gives tt; after = rows 5 (1 ∷ 1 ∷ replicate 5 0) })
     × (leastOutcome 2 1 refined (box 0 0 8 4) ≡ gives (record { level = 0; visited = 5 }))
 
--- "It, every active coefficient 700 watts (44,800 at level 1): 700×D at each point"
+-- "16 active at level 0, 10 at level 1": the last four of each row and the first two, and none of levels 2 and 3
+abbrev pub SixteenAndTen : Type 0
+SixteenAndTen =
+    (activeCounts 2 1 refined ≡ 16 ∷ 10 ∷ 0 ∷ 0 ∷ [])
+    × ActivityIs 2 1 refined 0 (rows 4 (0 ∷ replicate 4 1))
+    × ActivityIs 2 1 refined 1 (rows 5 (1 ∷ 1 ∷ replicate 5 0))
+    × ActivityIs 2 1 refined 2 (replicate 77 0)
+    × ActivityIs 2 1 refined 3 (replicate 209 0)
+
+-- "It, every active coefficient 700 watts (44,800 at level 1)", and "Passive places hold 0"
+abbrev pub Every700 : Type 0
+Every700 =
+    (64 * 700 ≡ 44800)
+    × ((L a b : ℕ) → L < 4 → a < functions 2 L → b < functions 1 L
+    → coefficients 2 1 level700 L a b ≡ cond (active 2 1 (levels refined) L a b) (pos (64 ^ L * 700)) (pos 0))
+
+-- "700×D at each point"
 abbrev pub Equal : Type 0
 Equal = (u v : ℕ) → onSheet 2 1 u v ≡ true → exactOutcome 2 1 refined level700 u v ≡ gives (pos (700 * D))
 
--- "8 by 8, tree 3: 4,489 active"
+-- "8 by 8, tree 3: 4,489 active": all of level 3, and none of another level
 abbrev pub Finest : Type 0
 Finest =
-    (out : List ℕ) → length out ≡ 4489
-    → activityOutcome 8 8 (3 ∷ []) 3 out ≡ record { result = gives tt; after = replicate 4489 1 }
+    (activeCounts 8 8 (3 ∷ []) ≡ 0 ∷ 0 ∷ 0 ∷ 4489 ∷ [])
+    × ActivityIs 8 8 (3 ∷ []) 0 (replicate 121 0)
+    × ActivityIs 8 8 (3 ∷ []) 1 (replicate 361 0)
+    × ActivityIs 8 8 (3 ∷ []) 2 (replicate 1225 0)
+    × ActivityIs 8 8 (3 ∷ []) 3 (replicate 4489 1)
 
--- "Tree 4 0 0 0 0: 2. Tree 1 on 1 by 1: 2, on 8 by 8 accepted"
+-- "Tree 4 0 0 0 0: 2": on every sheet. "Tree 1 on 1 by 1: 2"
 abbrev pub Trees : Type 0
 Trees =
-    (leastOutcome 8 8 (4 ∷ 0 ∷ 0 ∷ 0 ∷ 0 ∷ []) (box 0 0 4 4) ≡ refused 2)
-    × (leastOutcome 1 1 (1 ∷ []) (box 0 0 4 4) ≡ refused 2)
-    × (leastOutcome 8 8 (1 ∷ []) (box 0 0 4 4) ≡ gives (record { level = 1; visited = 1 }))
+    ((W H : ℕ) → goodSide W ≡ true → goodSide H ≡ true → TreeGives W H (4 ∷ 0 ∷ 0 ∷ 0 ∷ 0 ∷ []) 2)
+    × TreeGives 1 1 (1 ∷ []) 2
 
--- "1 by 1: u 128 accepted, 129 gives 6. Box 0,0 to 5,4 gives 7"
-abbrev pub LastPoint : Type 0
-LastPoint = exactOutcome 1 1 flat S 128 5 ≡ gives (pos (1000 * D))
+-- "on 8 by 8 accepted": by the least level, by activity at every level, and in a table
+abbrev pub OneOnEight : Type 0
+OneOnEight =
+    (leastOutcome 8 8 (1 ∷ []) (box 0 0 4 4) ≡ gives (record { level = 1; visited = 1 }))
+    × ((L : ℕ) (out : List ℕ) → L ≤ 3 → length out ≡ places 8 8 L
+    → activityOutcome 8 8 (1 ∷ []) L out .result ≡ gives tt)
+    × Acceptable 8 8 (1 ∷ []) (zeros 6196)
 
-abbrev pub Past : Type 0
-Past = (exactOutcome 1 1 flat S 129 5 ≡ refused 6) × (leastOutcome 1 1 flat (box 0 0 5 4) ≡ refused 7)
+-- "1 by 1: u 128 accepted, 129 gives 6": on every acceptable table, by each reading. At u = 128 any v of the sheet
+-- will do, at 129 none.
+pub record LastPoint (t : List ℕ) (cs : List ℤ) : Type 0 where
+  pub exact : (v : ℕ) → v ≤ 128 → exactOutcome 1 1 t cs 128 v ≡ gives (tableReading 1 1 t cs 128 v)
+  pub watts : (v : ℕ) (given : Answer Float) → v ≤ 128 → FloatMeets (exactOutcome 1 1 t cs 128 v) given
+      → (x : Float) × (given ≡ gives x) × Near (2 ^ 30) D (tableReading 1 1 t cs 128 v) x
+  pub display : (v : ℕ) → v ≤ 128 → displayOutcome 1 1 t cs 128 v ≡ gives (wholeWatts (tableReading 1 1 t cs 128 v))
+  pub cost : (v tariff : ℕ) → v ≤ 128 → tariff ≤ 99999
+      → costOutcome 1 1 t cs 128 v tariff ≡ gives (costOf (wholeWatts (tableReading 1 1 t cs 128 v)) tariff)
+  pub exactPast : (v : ℕ) → exactOutcome 1 1 t cs 129 v ≡ refused 6
+  pub wattsPast : (v : ℕ) (given : Answer Float) → FloatMeets (exactOutcome 1 1 t cs 129 v) given → given ≡ refused 6
+  pub displayPast : (v : ℕ) → displayOutcome 1 1 t cs 129 v ≡ refused 6
+  pub costPast : (v tariff : ℕ) → costOutcome 1 1 t cs 129 v tariff ≡ refused 6
+
+abbrev pub LastPoints : Type 0
+LastPoints =
+    ((t : List ℕ) (cs : List ℤ) → Acceptable 1 1 t cs → LastPoint t cs)
+    × (exactOutcome 1 1 flat S 128 5 ≡ gives (pos (1000 * D)))
+    × (exactOutcome 1 1 flat S 129 5 ≡ refused 6)
+
+-- "Box 0,0 to 5,4 gives 7": the least level of every tree of the form, and insertion into every acceptable table,
+-- whatever the level and the outputs, which stay
+abbrev pub WideBox : Type 0
+WideBox =
+    ((t : List ℕ) → regionCause 1 1 t ≡ 0 → leastOutcome 1 1 t (box 0 0 5 4) ≡ refused 7)
+    × ((t : List ℕ) (cs : List ℤ) (level : ℕ) (treeOut : List ℕ) (numbersOut : List ℤ) → Acceptable 1 1 t cs
+    → insertOutcome 1 1 t cs (box 0 0 5 4) level treeOut numbersOut
+    ≡ record { result = refused 7; tree = treeOut; numbers = numbersOut })
+    × (leastOutcome 1 1 flat (box 0 0 5 4) ≡ refused 7)
+    × (insertOutcome 1 1 flat S (box 0 0 5 4) 1 (replicate 14 9) (replicate 211 (pos 9))
+    ≡ record { result = refused 7; tree = replicate 14 9; numbers = replicate 211 (pos 9) })
 
 -- The table.
 pub record BenchSheet : Type 0 where
+  pub columnsOfS : ColumnsOfS
   pub slope : Slope
   pub corners : Corners
   pub nextCorner : NextCorner
   pub inserted : Inserted
+  pub columnsInserted : ColumnsInserted
+  pub allOfLevelOne : AllOfLevelOne
   pub visited : Visited
   pub twoByOne : TwoByOne
+  pub sixteenAndTen : SixteenAndTen
+  pub every700 : Every700
   pub equal : Equal
   pub finest : Finest
   pub trees : Trees
-  pub lastPoint : LastPoint
-  pub past : Past
+  pub oneOnEight : OneOnEight
+  pub lastPoints : LastPoints
+  pub wideBox : WideBox

@@ -2,9 +2,10 @@
 -- Values that are not plain in the document were worked by an unrelated evaluator with fractions (tests/evaluator).
 use mathlib.Core.Path.{_≡_}
 use mathlib.Core.List.{List, [], _∷_, _++_}
-use Prim.Native.Nat.{ℕ, _+_, _*_, _^_}
+use Prim.Native.Nat.{ℕ, _+_, _*_, _^_, _%_}
 use lib.IntN.{ℤ, pos, negℤ}
-use lib.ListN.{replicate, take}
+use lib.ListN.{length, replicate, take}
+use Rattle.surface.specs.Quadtree.{bytes, regionTree}
 use Rattle.surface.specs.Table.{levels, coefficients, tableCause}
 use Rattle.surface.specs.Patch.{patchReading}
 use Rattle.surface.specs.Calls.{refused, gives, freshOutcome, insertOutcome, setOutcome, activityOutcome}
@@ -31,6 +32,13 @@ Children =
     (leastOutcome 8 8 mixed (box 0 16 16 32) ≡ gives (record { level = 2; visited = 2 }))
     × (leastOutcome 8 8 mixed (box 0 0 32 32) ≡ gives (record { level = 0; visited = 9 }))
     × (leastOutcome 2 2 refined (box 4 0 8 8) ≡ gives (record { level = 0; visited = 5 }))
+
+-- "of 1 to 1,365 bytes": both occur, on a sheet of one level and on one whose neighbours all differ.
+abbrev pub Shortest : Type 0
+Shortest = bytes (regionTree 5 0 0 (λ q r. 3)) ≡ 3 ∷ []
+
+abbrev pub Longest : Type 0
+Longest = length (bytes (regionTree 5 0 0 (λ q r. (q + r) % 2))) ≡ 1365
 
 -- A box over the third cell along u: 4 4 0 4 1 and eight 0.
 abbrev pub EastBox : Type 0

@@ -16,16 +16,12 @@ use Rattle.surface.specs.Calls.{setOutcome, activityBytes, activityCause
 use Rattle.surface.specs.Calls.{readingCause, exactOutcome, displayOutcome, costOutcome, wholeWatts}
 use Rattle.surface.specs.TableFile.{field, activeInRow, activeCount, activeBefore, allWithin, levelFields}
 use Rattle.surface.specs.TableFile.{fileContents, fileOutcome}
-use Rattle.surface.specs.Bench.{Inserted, Visited, TwoByOne, Trees, Past}
-use Rattle.surface.specs.Cases.{InsideCell, Children, EastBox, LimitFirst, NewTree, Activity, Sets, Fresh}
-use Rattle.surface.specs.Cases.{LevelZero, SetsFine, Declined, LowestGiven, Rounded, Costs, Files, Heads}
-use Rattle.surface.specs.Cases.{ContentsFirst}
+use Rattle.surface.specs.Bench.{Inserted, Visited, TwoByOne}
+use Rattle.surface.specs.Cases.{InsideCell, Children, Shortest, Longest, EastBox, LimitFirst, NewTree, Activity}
+use Rattle.surface.specs.Cases.{Sets, Fresh, LevelZero, SetsFine, Declined, LowestGiven, Rounded, Costs, Files}
+use Rattle.surface.specs.Cases.{Heads, ContentsFirst}
 
 -- ---- of the bench sheet
-
-pub trees : Trees
-unfolding leastOutcome regionCause parse wellFormed levels levelAt least visits
-trees = (refl, refl, refl)
 
 pub visited : Visited
 unfolding leastOutcome regionCause parse wellFormed levels levelAt least visits
@@ -35,20 +31,15 @@ pub inserted : Inserted
 unfolding insertOutcome insertCause newTree newCoefficients bytes regionTree carried weight sum tableCause regionCause
     withinLimits passiveZero every leastUnder least eighths levels levelAt parse wellFormed start sliceFrom
     coefficients
-    tableFrom rowsFrom activityOutcome activityCause activityBytes
-inserted = (refl, refl)
+    tableFrom rowsFrom
+inserted = refl
 
 pub two-by-one : TwoByOne
 unfolding insertOutcome insertCause newTree newCoefficients bytes regionTree carried weight sum tableCause regionCause
     withinLimits passiveZero every leastUnder least eighths levels levelAt parse wellFormed start sliceFrom
     coefficients
-    tableFrom rowsFrom activityOutcome activityCause activityBytes leastOutcome visits
-two-by-one = (refl, refl, refl, refl)
-
-pub past : Past
-unfolding exactOutcome readingCause leastOutcome tableCause regionCause withinLimits passiveZero every leastUnder least
-    eighths levels levelAt parse wellFormed start sliceFrom coefficients tableFrom rowsFrom
-past = (refl, refl)
+    tableFrom rowsFrom leastOutcome visits
+two-by-one = (refl, refl)
 
 -- ---- further cases
 
@@ -59,6 +50,14 @@ inside-cell = refl
 pub children : Children
 unfolding leastOutcome regionCause parse wellFormed levels levelAt least visits
 children = (refl, refl, refl)
+
+pub shortest : Shortest
+unfolding bytes regionTree
+shortest = refl
+
+pub longest : Longest
+unfolding bytes regionTree
+longest = refl
 
 pub east-box : EastBox
 unfolding insertOutcome insertCause newTree bytes regionTree tableCause regionCause withinLimits passiveZero every

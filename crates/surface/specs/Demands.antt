@@ -9,6 +9,7 @@ use Prim.Native.Nat.{ℕ, suc, _+_, _*_, _/_, _^_, _≤_, _<_, max}
 use lib.IntN.{ℤ, pos, natAbs, _+ℤ_, _*ℤ_}
 use lib.Dec.{eqb}
 use lib.Signed.{_≤ℤ_}
+use lib.Ieee.{Float}
 use lib.ListN.{length, getD, take}
 use Rattle.finite.specs.Range.{sum}
 use Rattle.surface.specs.Sheet.{Box, functions, steps, quarters, onSheet}
@@ -19,6 +20,7 @@ use Rattle.surface.specs.Patch.{patch, patchReading}
 use Rattle.surface.specs.Table.{treeOf, formed, levels, slots, coefficients, limit, Acceptable, tableReading}
 use Rattle.surface.specs.Calls.{Answer, refused, gives, Written, Done, freshOutcome, insertOutcome, setOutcome}
 use Rattle.surface.specs.Calls.{activityOutcome, leastOutcome, exactOutcome, displayOutcome, costOutcome}
+use Rattle.surface.specs.FloatReading.{FloatMeets}
 use Rattle.surface.specs.TableFile.{fileOutcome}
 
 -- ---- demand 1: "a call gives its full result, or one refusal number from document 01 and writes nothing"
@@ -57,6 +59,11 @@ pub record Refusals : Type 0 where
   pub least : (W H : ℕ) (t : List ℕ) (box : Box) → RefusesWith (1 ∷ 2 ∷ 7 ∷ []) (leastOutcome W H t box)
   pub exact : (W H : ℕ) (t : List ℕ) (cs : List ℤ) (u v : ℕ)
       → RefusesWith (1 ∷ 2 ∷ 3 ∷ 4 ∷ 5 ∷ 6 ∷ []) (exactOutcome W H t cs u v)
+  -- The f64 reading is any answer that meets its promise: refused exactly where the exact one is, with its number.
+  pub watts : (W H : ℕ) (t : List ℕ) (cs : List ℤ) (u v : ℕ) (given : Answer Float)
+      → FloatMeets (exactOutcome W H t cs u v) given
+      → RefusesWith (1 ∷ 2 ∷ 3 ∷ 4 ∷ 5 ∷ 6 ∷ []) given
+      × ((n : ℕ) → (given ≡ refused n) ↔ (exactOutcome W H t cs u v ≡ refused n))
   pub display : (W H : ℕ) (t : List ℕ) (cs : List ℤ) (u v : ℕ)
       → RefusesWith (1 ∷ 2 ∷ 3 ∷ 4 ∷ 5 ∷ 6 ∷ []) (displayOutcome W H t cs u v)
   pub cost : (W H : ℕ) (t : List ℕ) (cs : List ℤ) (u v tariff : ℕ)
@@ -142,10 +149,23 @@ InsertionRaises =
 abbrev pub SameRegions : ℕ → ℕ → List ℕ → List ℕ → Type 0
 SameRegions W H s t = (q r : ℕ) → q < quarters W → r < quarters H → levels s q r ≡ levels t q r
 
+-- A slice that is a tree of the form, and gives the sheet's quarter squares the levels lev.
+abbrev pub TreeFor : ℕ → ℕ → (ℕ → ℕ → ℕ) → List ℕ → Type 0
+TreeFor W H lev t =
+    (formed W H (treeOf t) ≡ true) × ((q r : ℕ) → q < quarters W → r < quarters H → levels t q r ≡ lev q r)
+
+-- There is such a tree, there is no other, and its size.
+pub record OneTreeFor (W H : ℕ) (lev : ℕ → ℕ → ℕ) : Type 0 where
+  pub tree : List ℕ
+  pub exists : TreeFor W H lev tree
+  pub only : (t : List ℕ) → TreeFor W H lev t → t ≡ tree
+  pub size : (1 ≤ length tree) × (length tree ≤ 1365)
+
+-- "Each quarter square has a level 0 to 3": whichever levels the squares of the sheet have.
 abbrev pub OneTree : Type 0
 OneTree =
-    (W H : ℕ) → W ≤ 8 → H ≤ 8 → (s t : List ℕ) → formed W H (treeOf s) ≡ true → formed W H (treeOf t) ≡ true
-    → ((1 ≤ length t) × (length t ≤ 1365)) × (SameRegions W H s t → s ≡ t)
+    (W H : ℕ) → W ≤ 8 → H ≤ 8
+    → (lev : ℕ → ℕ → ℕ) → ((q r : ℕ) → q < quarters W → r < quarters H → lev q r ≤ 3) → OneTreeFor W H lev
 
 -- ---- demand 3: linearity, of tables that "share one sheet and one set of regions"
 

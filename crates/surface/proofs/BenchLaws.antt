@@ -1,0 +1,132 @@
+-- Laws by which the bench sheet's cases are proved: outcomes from their causes, and coefficients by a test that
+-- computes.
+use mathlib.Core.Path.{_≡_, refl, sym, _∙_, subst}
+use mathlib.Core.Bool.{Bool, true, _&&_}
+use mathlib.Core.List.{List}
+use Prim.Native.Nat.{ℕ, suc, _^_, _≤_, _<_}
+use lib.IntN.{ℤ, pos}
+use lib.ListN.{length, getD, getD-replicate}
+use lib.Dec.{T}
+use lib.Ieee.{Float}
+use lib.Signed.{leZ, leZ-yes}
+use borrow.Author.Tests.{le-leb, le-ltb, eq-eqb}
+use Rattle.finite.specs.Range.{every2}
+use Rattle.finite.proofs.Order.{≤ℤ-antisym}
+use Rattle.finite.proofs.Tests.{every2-true}
+use Rattle.surface.specs.Sheet.{functions, onSheet}
+use Rattle.surface.specs.Truncation.{D}
+use Rattle.surface.specs.Table.{places, place, coefficients, regionCause, tableCause, everywhere, Acceptable}
+use Rattle.surface.specs.Table.{tableReading}
+use Rattle.surface.specs.Calls.{Answer, refused, gives, insertCause, insertOutcome, setCause, setOutcome}
+use Rattle.surface.specs.Calls.{activityBytes, activityCause, activityOutcome, leastOutcome, readingCause}
+use Rattle.surface.specs.Calls.{exactOutcome, displayOutcome, costOutcome}
+use Rattle.surface.specs.FloatReading.{Near, FloatMeets}
+use Rattle.surface.specs.Bench.{zeros, box, Columns, ActivityIs, TreeGives, LastPoint}
+use Rattle.surface.proofs.Least.{both}
+use Rattle.surface.proofs.TableLaws.{everywhere-true}
+use Rattle.surface.proofs.Refusals.{float-refused}
+
+-- ---- coefficients
+
+-- a test of equality that computes
+unfoldable pub eqZ : ℤ → ℤ → Bool
+eqZ x y = leZ x y && leZ y x
+
+eqZ-true : (x y : ℤ) → eqZ x y ≡ true → x ≡ y
+unfolding eqZ
+eqZ-true x y e =
+    let e2 = both (leZ x y) (leZ y x) e in
+    ≤ℤ-antisym (leZ-yes (subst T (sym (e2 .0)) tt)) (leZ-yes (subst T (sym (e2 .1)) tt))
+
+pub columns-by : (W H : ℕ) (cs : List ℤ) (L : ℕ) (row : List ℤ)
+    → every2 (functions W L) (functions H L) (λ a b. eqZ (coefficients W H cs L a b) (getD row a (pos 0))) ≡ true
+    → Columns W H cs L row
+columns-by W H cs L row e a b ha hb =
+    eqZ-true (coefficients W H cs L a b) (getD row a (pos 0))
+    (every2-true (functions W L) (functions H L) (λ a b. eqZ (coefficients W H cs L a b) (getD row a (pos 0))) e
+    a b ha hb)
+
+pub everywhere-by : (W H : ℕ) (f g : ℕ → ℕ → ℕ → ℤ) → everywhere W H (λ L a b. eqZ (f L a b) (g L a b)) ≡ true
+    → (L a b : ℕ) → L < 4 → a < functions W L → b < functions H L → f L a b ≡ g L a b
+everywhere-by W H f g e L a b hL ha hb =
+    eqZ-true (f L a b) (g L a b) (everywhere-true W H (λ L a b. eqZ (f L a b) (g L a b)) e L a b hL ha hb)
+
+pub zero-coefficient : (W H n L a b : ℕ) → place W H L a b < n → coefficients W H (zeros n) L a b ≡ pos 0
+unfolding coefficients
+zero-coefficient W H n L a b h = getD-replicate n (place W H L a b) (pos 0) (pos 0) h
+
+-- ---- activity
+
+pub activity-is : (W H : ℕ) (t : List ℕ) (L : ℕ) (bytes : List ℕ) → regionCause W H t ≡ 0 → L ≤ 3
+    → length bytes ≡ places W H L → activityBytes W H t L ≡ bytes → ActivityIs W H t L bytes
+unfolding activityOutcome activityCause
+activity-is W H t L bytes c h n b out e =
+    rw (c, le-ltb 3 L h, eq-eqb (length out) (places W H L) (e ∙ n), b)
+
+-- ---- refusals
+
+-- where the exact reading is given, so is the f64, near it
+near-given : (o : Answer ℤ) (n : ℤ) (given : Answer Float) → o ≡ gives n → FloatMeets o given
+    → (x : Float) × (given ≡ gives x) × Near (2 ^ 30) D n x
+near-given o n given e m = go given (subst (λ k. FloatMeets k given) e m)
+  where
+    go : (g : Answer Float) → FloatMeets (gives n) g → (x : Float) × (g ≡ gives x) × Near (2 ^ 30) D n x
+    go (refused k) h = absurd h
+    go (gives x) h = (x, refl, h)
+
+-- cause 1 or 2 comes before all that a call is lent beside the tree
+pub tree-gives : (W H : ℕ) (t : List ℕ) (n : ℕ) → regionCause W H t ≡ suc n → TreeGives W H t (suc n)
+unfolding leastOutcome activityOutcome activityCause insertOutcome insertCause setOutcome setCause exactOutcome
+    displayOutcome costOutcome readingCause
+tree-gives W H t n e =
+    record {
+      least = λ b. rw e;
+      activity = λ L out. rw e;
+      insert = λ cs b level treeOut numbersOut. rw (table cs);
+      set = λ cs L i j number. rw (table cs);
+      exact = exact;
+      watts = λ cs u v given m. float-refused (exactOutcome W H t cs u v) given m (suc n) .1 (exact cs u v);
+      display = λ cs u v. rw (table cs);
+      cost = λ cs u v tariff. rw (table cs);
+    }
+  where
+    table : (cs : List ℤ) → tableCause W H t cs ≡ suc n
+    table cs = unfold tableCause in rw e
+
+    exact : (cs : List ℤ) (u v : ℕ) → exactOutcome W H t cs u v ≡ refused (suc n)
+    exact cs u v = rw (table cs)
+
+pub last-point : (t : List ℕ) (cs : List ℤ) → Acceptable 1 1 t cs → LastPoint t cs
+unfolding exactOutcome displayOutcome costOutcome readingCause
+last-point t cs acc =
+    record {
+      exact = exact;
+      watts = λ v given h m.
+          near-given (exactOutcome 1 1 t cs 128 v) (tableReading 1 1 t cs 128 v) given (exact v h) m;
+      display = λ v h. rw (acc, on v h);
+      cost = λ v tariff h k. rw (acc, on v h, le-ltb 99999 tariff k);
+      exactPast = past;
+      wattsPast = λ v given m. float-refused (exactOutcome 1 1 t cs 129 v) given m 6 .1 (past v);
+      displayPast = λ v. rw acc;
+      costPast = λ v tariff. rw acc;
+    }
+  where
+    on : (v : ℕ) → v ≤ 128 → onSheet 1 1 128 v ≡ true
+    on v h = le-leb v 128 h
+
+    exact : (v : ℕ) → v ≤ 128 → exactOutcome 1 1 t cs 128 v ≡ gives (tableReading 1 1 t cs 128 v)
+    exact v h = rw (acc, on v h)
+
+    past : (v : ℕ) → exactOutcome 1 1 t cs 129 v ≡ refused 6
+    past v = rw acc
+
+pub wide-least : (t : List ℕ) → regionCause 1 1 t ≡ 0 → leastOutcome 1 1 t (box 0 0 5 4) ≡ refused 7
+unfolding leastOutcome
+wide-least t e = rw e
+
+pub wide-insert : (t : List ℕ) (cs : List ℤ) (level : ℕ) (treeOut : List ℕ) (numbersOut : List ℤ)
+    → Acceptable 1 1 t cs
+    → insertOutcome 1 1 t cs (box 0 0 5 4) level treeOut numbersOut
+    ≡ record { result = refused 7; tree = treeOut; numbers = numbersOut }
+unfolding insertOutcome insertCause
+wide-insert t cs level treeOut numbersOut acc = rw acc
