@@ -1,3 +1,7 @@
+pub mod ActiveLaws
+pub mod BitLaws
+pub mod CountLaws
 pub mod MarkLaws
-pub mod MinimaLaws
 pub mod NearLaws
+pub mod RegionLaws
+pub mod WindowLaws

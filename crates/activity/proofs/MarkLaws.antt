@@ -1,19 +1,14 @@
 -- Laws of tables and grids that are written place after place and row after row.
 use mathlib.Core.Path.{_≡_, refl, sym, ap, ap₂, _∙_}
-use mathlib.Core.Bool.{cond}
 use mathlib.Core.List.{List, [], _∷_, _++_, append-assoc, append-nil}
 use Prim.Native.Nat.{ℕ, zero, suc, _+_, _*_, _≤_, _<_}
 use native.Mathlib.Nat.{add-zero, zero-add, zero-mul, suc-mul, mul-comm}
 use native.Mathlib.Numerals.{add-one}
 use native.Mathlib.Omega.{arith}
-use lib.Dec.{eqb}
 use lib.ListN.{length, getD, drop, take, set}
 use lib.Seq.{drop-cons, drop-length, set-at, take-at, drop-at, drop-drop}
 use Rattle.finite.specs.Range.{tableFrom, rowsFrom, grid}
-use Rattle.finite.proofs.Table.{length-table, table-cong, length-grid}
-use Rattle.surface.specs.Sheet.{functions}
-use Rattle.activity.specs.Minima.{RowMinima, SupportMinima}
-use Rattle.activity.specs.Mark.{markAt, rowMarks, activeMark}
+use Rattle.finite.proofs.Table.{length-table, length-grid}
 
 module _ {A : Type 0} where
   -- ---- tables
@@ -99,13 +94,3 @@ module _ {A : Type 0} where
       ap₂ (λ s t. s ++ (row ++ t)) front (ap (drop k) back ∙ drop-drop k at l ∙ ap (λ i. drop i l) behind)
       ∙ sym (append-assoc rows row (drop ((b + 1) * n) l))
       ∙ ap (λ t. t ++ drop ((b + 1) * n) l) last
-
--- ---- the marks of a level
-
--- those of its row b, from the least levels there
-pub row-marks : (W H L n b : ℕ) (map minima found : List ℕ) → 0 < W → W ≤ 8 → n ≡ functions W L
-    → RowMinima W H L map minima → SupportMinima H L b minima found
-    → rowMarks L found n ≡ tableFrom 0 n (λ a. activeMark W H L map a b)
-row-marks W H L n b map minima found positive small e rows s =
-    table-cong 0 n (markAt L found) (λ a. activeMark W H L map a b)
-    (λ k l. ap (λ v. cond (eqb v L) 1 0) (s .least W map positive small rows (0 + k) (omega arith)))

@@ -1,3 +1,3 @@
-pub mod Minima
+pub mod Marks
 pub mod Mark
 pub mod Near

@@ -2,25 +2,25 @@
 use mathlib.Core.Bool.{cond}
 use mathlib.Core.List.{List}
 use Prim.Native.Nat.{ℕ}
-use lib.Dec.{eqb}
-use lib.ListN.{getD}
 use Rattle.finite.specs.Range.{tableFrom, grid}
 use Rattle.surface.specs.Sheet.{functions}
 use Rattle.surface.specs.Support.{active}
-use Rattle.activity.specs.Minima.{levelsOf}
+use Rattle.rows.specs.Rows.{levelsOf}
+use Rattle.activity.specs.Marks.{marked}
+use Rattle.activity.specs.declared.Marks.{Marks}
 
--- 1 if the least level at place a is the given one, else 0
-abbrev pub markAt : ℕ → List ℕ → ℕ → ℕ
-markAt level least a = cond (eqb (getD least a 0) level) 1 0
+-- 1 if function a is marked, else 0
+abbrev pub markAt : ℕ → Marks → ℕ → ℕ
+markAt e m a = cond (marked e m a) 1 0
 
--- those of n places
-abbrev pub rowMarks : ℕ → List ℕ → ℕ → List ℕ
-rowMarks level least n = tableFrom 0 n (markAt level least)
+-- those of n functions
+abbrev pub rowMarks : ℕ → Marks → ℕ → List ℕ
+rowMarks e m n = tableFrom 0 n (markAt e m)
 
--- 1 if function (a, b) of a level is active under the map of levels, else 0
+-- 1 if function (a, b) of a level is active under the levels of the rows, else 0
 abbrev pub activeMark : ℕ → ℕ → ℕ → List ℕ → ℕ → ℕ → ℕ
-activeMark W H L map a b = cond (active W H (levelsOf map) L a b) 1 0
+activeMark W H L rows a b = cond (active W H (levelsOf rows) L a b) 1 0
 
 -- those of the places of a level
 abbrev pub levelMarks : ℕ → ℕ → ℕ → List ℕ → List ℕ
-levelMarks W H L map = grid (functions W L) (functions H L) (activeMark W H L map)
+levelMarks W H L rows = grid (functions W L) (functions H L) (activeMark W H L rows)

@@ -1,22 +1,16 @@
-// The least levels under the supports of a level's functions, from the map of levels: minima over windows of quarter
-// squares, first along u in each row, then along v. (The map has 32 rows of 32 places; a row of minima has 80 places.)
+// Which functions of a level are active, from the regions as rows of bits, a row of functions at a time: the words of
+// the quarter rows under a row's supports are taken together, then runs of set bits along u are found.
+pub mod count;
 pub mod mark;
 pub mod near;
 
 ghost use mathlib.Core.Path.{_≡_};
-ghost use Prim.Native.Nat.{_+_, _/_, _≤_, _<_, min};
-ghost use lib.ListN.{length};
+ghost use Prim.Native.Nat.{ℕ, _+_, _*_, _/_, _≤_, _<_};
 ghost use Rattle.surface.specs.Sheet.{functions};
 ghost use Rattle.surface.specs.Sheet as Sheet;
 ghost use Rattle.surface.specs.Support.{lowEnd, highEnd};
-ghost use Rattle.activity.specs.Minima.{leastBetween, RowMinima, LoweredBy, SupportMinima};
-ghost use Rattle.activity.specs.Minima.{FlippedRow, Flipped, PutColumn};
-
-fn lesser(a: u8, b: u8) -> u8
-    ensures { λ r. ⌜ r ≡ min a b ⌝ }
-{
-    if a < b { a } else { b }
-}
+ghost use Rattle.rows.specs.Rows.{levelsOf, Nested};
+ghost use Rattle.activity.specs.Marks.{Common, PaddedTo, Runs, marked, RegionRow, ActiveRow, Without};
 
 // The side of a level's cells in eighths of a level 0 cell.
 pub fn eighths(level: usize) -> usize
@@ -55,97 +49,138 @@ pub fn window_of(n: usize, level: usize, a: usize) -> Window
     }
 }
 
-// The least of the levels at places from .. to; 3 if there is none.
-fn least_between(map: &[u8; 1024], from: usize, to: usize) -> u8
-    requires { ⌜ to ≤ 1024 ⌝ }
-    ensures { λ r. ⌜ r ≡ leastBetween from to (now (map .entry)) ⌝ }
+// Marks of the functions of one row of a level, those with even and with odd index in a word each.
+pub struct Marks {
+    pub even: u64,
+    pub odd: u64,
+}
+
+// Whether function a is marked, where a cell's side is e eighths.
+pub fn is_marked(m: Marks, a: usize, e: usize) -> bool
+    requires { ⌜ (a * e ≤ 88) × (e ≤ 8) ⌝ }
+    ensures { λ r. ⌜ r ≡ marked e m a ⌝ }
 {
-    let mut least = 3u8;
+    let word = if a % 2 == 0 { m.even } else { m.odd };
+    let place = (32 + a * e - 3 * e) / 2;
+    1 <= (word >> place) % 2
+}
+
+// The bits that are set in all words from .. to.
+fn common(rows: &[u32; 96], from: usize, to: usize) -> u32
+    requires { ⌜ (from ≤ to) × (to ≤ 96) ⌝ }
+    ensures { λ r. ⌜ Common (now (rows .entry)) from to r ⌝ }
+{
+    let mut word = 4294967295u32;
     let mut i = from;
     while i < to {
-        least = lesser(least, map[i]);
+        word = word & rows[i];
         i += 1;
     }
-    least
+    word
 }
 
-// Each of the 80 numbers, or that of the row at `at` if it is less.
-fn lower_by_row(least: &mut [u8; 80], minima: &[u8; 2560], at: usize)
-    requires { ⌜ (at + 80 ≤ 2560) × (length (now least) ≡ 80) ⌝ }
-    ensures { λ r. ⌜ LoweredBy (now (minima .entry)) at (now (least .entry)) (now (least .exit)) ⌝ }
+// The places beside the sheet in a word that has 16 places before it, for each width of the sheet: "its support is cut
+// to the sheet", so that they count as set.
+const EDGES: [u64; 9] = [
+    18446744073709551615,
+    18446744073708568575,
+    18446744073692839935,
+    18446744073441181695,
+    18446744069414649855,
+    18446744004990140415,
+    18446742974197989375,
+    18446726481523572735,
+    18446462598732906495,
+];
+
+// A row of quarters with 16 places before it; those and the places past the sheet's edge are set.
+fn padded(word: u32, w: usize) -> u64
+    requires { ⌜ w ≤ 8 ⌝ }
+    ensures { λ r. ⌜ PaddedTo w word r ⌝ }
 {
-    let mut i = 0;
-    while i < 80 {
-        least[i] = lesser(least[i], minima[at + i]);
-        i += 1;
-    }
+    (word as u64 * 65536) | EDGES[w]
 }
 
-// The least levels under the supports of the functions (0, b), (1, b), ... of a level.
-pub fn support_minima(minima: &[u8; 2560], h: usize, level: usize, b: usize) -> [u8; 80]
-    requires { ⌜ (h ≤ 8) × (level ≤ 3) × (b < 67) ⌝ }
-    ensures { λ r. ⌜ SupportMinima h level b (now (minima .entry)) r ⌝ }
+// Bit k of the result is set where the n bits from k on are.
+fn runs(word: u64, n: usize) -> u64
+    requires { ⌜ (1 ≤ n) × (n ≤ 16) ⌝ }
+    ensures { λ r. ⌜ Runs word n r ⌝ }
+{
+    let mut run = word;
+    let mut c = 1;
+    while c < n {
+        run = run & (word >> c);
+        c += 1;
+    }
+    run
+}
+
+// Of row b of a level, the functions whose cut support lies in the region of a level from 1 to 3.
+pub fn region_row(
+    rows: &[u32; 96],
+    w: usize,
+    h: usize,
+    level: usize,
+    b: usize,
+    region: usize,
+) -> Marks
+    requires { ⌜ (w ≤ 8) × (h ≤ 8) × (level ≤ 3) × (b < functions h level) × (1 ≤ region) × (region ≤ 3)
+        × Nested (now rows) ⌝ }
+    ensures { λ r. ⌜ RegionRow w h level b region (levelsOf (now (rows .entry))) r ⌝ }
 {
     let window = window_of(h, level, b);
-    let mut least = [3u8; 80];
-    let mut r = window.low;
-    let high = window.high;
-    while r < high {
-        lower_by_row(&mut least, minima, r * 80);
-        r += 1;
-    }
-    least
+    let first = 32 * region - 32;
+    let low = first + window.low;
+    let high = first + window.high;
+    let word = common(rows, low, high);
+    let e = eighths(level);
+    let odd = runs(padded(word, w), 2 * e);
+    // Every other support of level 3 halves two quarters and so covers three: two runs of two.
+    let even = if e == 1 { odd & (odd >> 1) } else { odd };
+    Marks { even, odd }
 }
 
-// Row q of the map with the directions exchanged.
-fn flip_row(map: &[u8; 1024], q: usize, flipped: &mut [u8; 2560])
-    requires { ⌜ (q < 32) × (length (now flipped) ≡ 2560) ⌝ }
-    ensures { λ x. ⌜ FlippedRow q (now (map .entry)) (now (flipped .entry)) (now (flipped .exit)) ⌝ }
+// The bits of a word that are not set in another.
+fn without(word: u64, other: u64) -> u64
+    ensures { λ r. ⌜ Without word other r ⌝ }
 {
-    let mut r = 0;
-    while r < 32 {
-        flipped[q * 80 + r] = map[r * 32 + q];
-        r += 1;
-    }
+    word ^ (word & other)
 }
 
-// The map with the directions exchanged, in rows of 80 places.
-fn flip(map: &[u8; 1024]) -> [u8; 2560]
-    ensures { λ x. ⌜ Flipped (now (map .entry)) x ⌝ }
+// Of row b of a level, the functions whose cut support lies in the region of their own level: at level 0 all.
+fn inside(rows: &[u32; 96], w: usize, h: usize, level: usize, b: usize) -> Marks
+    requires { ⌜ (w ≤ 8) × (h ≤ 8) × (level ≤ 3) × (b < functions h level) × Nested (now rows) ⌝ }
+    ensures { λ r. ⌜ RegionRow w h level b level (levelsOf (now (rows .entry))) r ⌝ }
 {
-    let mut flipped = [3u8; 2560];
-    let mut q = 0;
-    while q < 32 {
-        flip_row(map, q, &mut flipped);
-        q += 1;
+    if level == 0 {
+        return Marks {
+            even: 18446744073709551615,
+            odd: 18446744073709551615,
+        };
     }
-    flipped
+    region_row(rows, w, h, level, b, level)
 }
 
-// Writes the minima of function a in the 32 rows.
-fn put_column(minima: &mut [u8; 2560], column: &[u8; 80], a: usize)
-    requires { ⌜ (a < 80) × (length (now minima) ≡ 2560) ⌝ }
-    ensures { λ x. ⌜ PutColumn a (now (column .entry)) (now (minima .entry)) (now (minima .exit)) ⌝ }
+// Those whose cut support lies in the region of the level after it: at level 3 none.
+fn beyond(rows: &[u32; 96], w: usize, h: usize, level: usize, b: usize) -> Marks
+    requires { ⌜ (w ≤ 8) × (h ≤ 8) × (level ≤ 3) × (b < functions h level) × Nested (now rows) ⌝ }
+    ensures { λ r. ⌜ RegionRow w h level b (level + 1) (levelsOf (now (rows .entry))) r ⌝ }
 {
-    let mut r = 0;
-    while r < 32 {
-        minima[r * 80 + a] = column[r];
-        r += 1;
+    if level == 3 {
+        return Marks { even: 0, odd: 0 };
     }
+    region_row(rows, w, h, level, b, level + 1)
 }
 
-// The minima along u of all rows of the sheet: those along v of the map with the directions exchanged.
-pub fn row_minima(map: &[u8; 1024], w: usize, h: usize, level: usize, n: usize) -> [u8; 2560]
-    requires { ⌜ (w ≤ 8) × (h ≤ 8) × (level ≤ 3) × (n ≡ functions w level) ⌝ }
-    ensures { λ r. ⌜ RowMinima w h level (now (map .entry)) r ⌝ }
+// The active functions of row b of a level.
+pub fn active_row(rows: &[u32; 96], w: usize, h: usize, level: usize, b: usize) -> Marks
+    requires { ⌜ (w ≤ 8) × (h ≤ 8) × (level ≤ 3) × (b < functions h level) × Nested (now rows) ⌝ }
+    ensures { λ r. ⌜ ActiveRow w h level b (levelsOf (now (rows .entry))) r ⌝ }
 {
-    let flipped = flip(map);
-    let mut minima = [3u8; 2560];
-    let mut a = 0;
-    while a < n {
-        let column = support_minima(&flipped, w, level, a);
-        put_column(&mut minima, &column, a);
-        a += 1;
+    let own = inside(rows, w, h, level, b);
+    let finer = beyond(rows, w, h, level, b);
+    Marks {
+        even: without(own.even, finer.even),
+        odd: without(own.odd, finer.odd),
     }
-    minima
 }

@@ -3,24 +3,25 @@ ghost use mathlib.Core.Path.{_≡_};
 ghost use Prim.Native.Nat.{_*_, _≤_, _<_};
 ghost use lib.ListN.{length};
 ghost use Rattle.surface.specs.Sheet.{functions};
+ghost use Rattle.rows.specs.Rows.{Nested};
 ghost use Rattle.activity.specs.Mark.{rowMarks, levelMarks};
 
-// Marks one row of a level: 1 where the least level is the function's own, else 0.
-fn mark_row(row: &mut [u8], least: &[u8; 80], level: u8)
-    requires { ⌜ length (now row) ≤ 80 ⌝ }
-    ensures { λ r. ⌜ now (row .exit) ≡ rowMarks level (now (least .entry)) (length (now (row .entry))) ⌝ }
+// Writes the marks of one row of a level, 1 for a marked function and 0 for another; a cell's side is e eighths.
+fn mark_row(row: &mut [u8], m: super::Marks, e: usize)
+    requires { ⌜ (length (now row) * e ≤ 88) × (1 ≤ e) × (e ≤ 8) ⌝ }
+    ensures { λ r. ⌜ now (row .exit) ≡ rowMarks e m (length (now (row .entry))) ⌝ }
 {
     let n = row.len();
     let mut a = 0;
     while a < n {
-        row[a] = if least[a] == level { 1 } else { 0 };
+        row[a] = if super::is_marked(m, a, e) { 1 } else { 0 };
         a += 1;
     }
 }
 
 // Marks the places of a level, n functions in each of m rows.
 pub fn mark_level(
-    map: &[u8; 1024],
+    rows: &[u32; 96],
     w: usize,
     h: usize,
     level: usize,
@@ -28,17 +29,17 @@ pub fn mark_level(
     m: usize,
     out: &mut [u8],
 )
-    requires { ⌜ (0 < w) × (w ≤ 8) × (h ≤ 8) × (level ≤ 3) × (n ≡ functions w level) × (m ≡ functions h level)
-        × (length (now out) ≡ n * m) ⌝ }
-    ensures { λ r. ⌜ now (out .exit) ≡ levelMarks w h level (now (map .entry)) ⌝ }
+    requires { ⌜ (w ≤ 8) × (h ≤ 8) × (level ≤ 3) × (n ≡ functions w level) × (m ≡ functions h level)
+        × (length (now out) ≡ n * m) × Nested (now rows) ⌝ }
+    ensures { λ r. ⌜ now (out .exit) ≡ levelMarks w h level (now (rows .entry)) ⌝ }
 {
-    let minima = crate::row_minima(map, w, h, level, n);
+    let e = super::eighths(level);
     let mut b = 0;
     while b < m {
-        let least = crate::support_minima(&minima, h, level, b);
+        let marks = super::active_row(rows, w, h, level, b);
         let from = b * n;
         let to = from + n;
-        mark_row(&mut out[from..to], &least, level as u8);
+        mark_row(&mut out[from..to], marks, e);
         b += 1;
     }
 }

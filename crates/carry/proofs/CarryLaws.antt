@@ -1,245 +1,225 @@
--- Carried values that are written place after place, row after row and level after level.
+-- Carried values: of a row by its marks and the sums along v, of a level from the one before it, and of level 0.
 use mathlib.Core.Path.{_≡_, refl, sym, ap, ap₂, _∙_, subst}
 use mathlib.Core.Bool.{cond}
-use mathlib.Core.List.{List}
+use mathlib.Core.List.{List, _++_}
 use Prim.Native.Nat.{ℕ, zero, suc, _+_, _-_, _*_, _/_, _%_, _^_, _≤_, _<_}
-use native.Mathlib.Nat.{mul-comm, mul-le-mul-right, mul-le-mul-left, pow-le-pow-right, suc-mul, zero-mul, le-trans}
-use native.Mathlib.Nat.{le-add-right}
+use native.Mathlib.Nat.{zero-add, mul-one, mul-comm, mul-le-mul-left, mul-le-mul-right, pow-le-pow-right, le-trans}
 use native.Mathlib.Numerals.{add-one}
-use native.Mathlib.Decide.{ℕ-discrete, decLt}
 use native.Mathlib.Omega.{arith}
 use lib.IntN.{ℤ, pos, natAbs, _*ℤ_}
-use lib.Dec.{leb}
-use lib.ListN.{length, getD, set, length-set}
-use lib.Seq.{getD-set-same, getD-set-other}
-use Rattle.finite.specs.Range.{sum2}
-use Rattle.finite.proofs.Sum.{sum2-cong}
-use Rattle.surface.specs.Sheet.{functions}
-use Rattle.surface.specs.Support.{leastUnder}
+use lib.ListN.{length, getD, take, drop, length-append, length-take, length-drop, List·getD-append}
+use lib.Seq.{length-take-le, length-front, getD-take, getD-drop}
+use Rattle.finite.specs.Range.{sum2, tableFrom, grid}
+use Rattle.finite.proofs.Sum.{sum-cong, sum2-cong}
+use Rattle.finite.proofs.Table.{table-cong, length-table, getD-table, place-below, place-split}
+use Rattle.finite.proofs.Table.{length-grid, getD-grid}
+use Rattle.surface.specs.Sheet.{eighths, functions}
+use Rattle.surface.specs.Support.{inRegion}
 use Rattle.surface.specs.Truncation.{weight2}
 use Rattle.surface.specs.Table.{places, start, slots, place, coefficients, limit}
 use Rattle.surface.specs.Carry.{carried}
-use Rattle.surface.proofs.Parents.{functions-step, parents2}
-use Rattle.surface.proofs.TableLaws.{start-step, start-le, place-before, place-in-slice, place-unique}
+use Rattle.surface.specs.Patch.{stencil}
+use Rattle.surface.proofs.Parents.{functions-step}
+use Rattle.surface.proofs.TableLaws.{start-step, start-le, place-before}
+use Rattle.rows.specs.Rows.{levelsOf}
+use Rattle.activity.specs.Marks.{marked, RegionRow}
+use Rattle.activity.specs.declared.Marks.{Marks}
+use Rattle.activity.proofs.WindowLaws.{functions-le}
 use Rattle.coefficients.proofs.Sizes.{starts}
-use Rattle.activity.specs.Minima.{levelsOf, RowMinima, SupportMinima}
-use Rattle.carry.specs.Carried.{CarriedFit, Carries, CarriesBelow, BoundedBelow, twoScale, rowsEnd, rowStart}
-use Rattle.carry.specs.Carried.{valueOf, rowValue, RowWritten, CarriedRow, Copied}
-use Rattle.carry.proofs.SliceLaws.{place-of}
-use Rattle.carry.proofs.StepLaws.{two-scale-cong}
+use Rattle.coefficients.proofs.Parts.{part, part-at, level-fits}
+use Rattle.carry.specs.Carried.{CarriedFit, Within, childOf, childFrom, columnChild, AlongV, rowCarried}
+use Rattle.carry.specs.Carried.{carriedAt, levelCarried, copied}
+use Rattle.carry.proofs.ChildLaws.{child-cong, two-scale}
+use Rattle.carry.proofs.LevelLaws.{Replaced, replaced, replaced-later, Below, level-more}
 
--- ---- one place more
+-- ---- a row
 
--- what a list holds after a store, at the store's place and at any other
-stored : (l : List ℤ) (at : ℕ) (v : ℤ) → at < length l → (q : ℕ) (x : ℤ) → (q ≡ at → v ≡ x)
-    → ((q ≡ at → ⊥) → getD l q (pos 0) ≡ x) → getD (set l at v) q (pos 0) ≡ x
-stored l at v inside q x here other = go (ℕ-discrete q at)
+-- a row's parents stand in the part of the coarser level
+pub parents-fit : (W H L b n : ℕ) → n ≡ functions W L → b < functions H (L + 1)
+    → (b / 2 + b % 2 + 2) * n ≤ places W H L
+parents-fit W H L b n columns hb =
+    let low : b < functions H (suc L) = subst (λ k. b < functions H k) (add-one L) hb in
+    let rows : b / 2 + b % 2 + 2 ≤ functions H L = omega (arith, functions-step H L) in
+    rw columns (omega (arith, mul-le-mul-right (functions W L) rows, mul-comm (functions W L) (functions H L)))
+
+-- the coarser level has few columns
+pub columns-few : (W L : ℕ) → W ≤ 8 → L < 3 → functions W L ≤ 35
+columns-few W L hW hL = omega (arith, functions-step W L, functions-le W (suc L) hW hL)
+
+pub row-carried : (W H L n b e : ℕ) (rows : List ℕ) (inside : Marks) (own s sums : List ℤ) → n ≡ functions W (L + 1)
+    → e ≡ eighths (L + 1) → RegionRow W H (L + 1) b (L + 1) (levelsOf rows) inside → AlongV (functions W L) b s sums
+    → tableFrom 0 n (rowCarried (marked e inside) (part (b * n) n own) sums)
+    ≡ tableFrom 0 n (λ a. carriedAt W H L rows own s a b)
+row-carried W H L n b e rows inside own s sums columns side found along =
+    table-cong 0 n (rowCarried (marked e inside) (part (b * n) n own) sums) (λ a. carriedAt W H L rows own s a b)
+    (λ k h. same (0 + k) (omega arith))
   where
-    go : Dec (q ≡ at) → getD (set l at v) q (pos 0) ≡ x
-    go (yes e) = ap (λ k. getD (set l at v) k (pos 0)) e ∙ getD-set-same l at v (pos 0) inside ∙ here e
-    go (no e) = getD-set-other l at q v (pos 0) e ∙ other e
+    same : (a : ℕ) → a < n → rowCarried (marked e inside) (part (b * n) n own) sums a ≡ carriedAt W H L rows own s a b
+    same a h =
+        let within : a < functions W (L + 1) = rw columns at h in
+        let next : a < functions W (suc L) = subst (λ k. a < functions W k) (add-one L) within in
+        let test : marked e inside a ≡ inRegion W H (levelsOf rows) (L + 1) a b =
+        ap (λ e. marked e inside a) side ∙ found a within in
+        let kept : getD (part (b * n) n own) a (pos 0) ≡ getD own (b * functions W (L + 1) + a) (pos 0) =
+        part-at (b * n) n own a h ∙ ap (λ k. getD own (b * k + a) (pos 0)) columns in
+        let sum : childFrom sums (a / 2) 1 a ≡ childOf a (λ i. columnChild s (functions W L) b (a / 2 + i)) =
+        sum-cong 3 (λ i. pos (stencil a i) *ℤ getD sums (a / 2 + i * 1) (pos 0))
+        (λ i. pos (stencil a i) *ℤ getD sums (a / 2 + i) (pos 0))
+        (λ i l. ap (λ k. pos (stencil a i) *ℤ getD sums (a / 2 + k) (pos 0)) (mul-one i))
+        ∙ child-cong W L a (λ i. getD sums i (pos 0)) (columnChild s (functions W L) b) next (along .sums) in
+        λ i. cond (test i) (kept i) (sum i)
 
-pub copied-none : (cs before : List ℤ) → Copied 0 cs before before
-copied-none cs before = record { size = refl; values = λ k h. absurd (omega arith) }
+-- ---- a level
 
-pub copied-more : (n : ℕ) (cs before after : List ℤ) (v : ℤ) → n < length before → Copied n cs before after
-    → v ≡ getD cs n (pos 0) → Copied (n + 1) cs before (set after n v)
-copied-more n cs before after v inside c e = record {
-  size = length-set after n v ∙ c .size;
-  values = λ k h. stored after n v (rw (c .size) inside) k (getD cs k (pos 0))
-      (λ p. e ∙ ap (λ k. getD cs k (pos 0)) (sym p)) (λ ne. c .values k (omega arith));
-}
-
-module _ (level first n b from : ℕ) (least : List ℕ) (cs before : List ℤ) where
-  pub row-none : RowWritten level first n b from least cs before 0 before
-  row-none = record { size = refl; kept = λ p h. refl; row = λ a h. absurd (omega arith) }
-
-  pub row-more : (m : ℕ) (after : List ℤ) (v : ℤ) → from + m < length before
-      → RowWritten level first n b from least cs before m after → v ≡ rowValue level first n b from least cs before m
-      → RowWritten level first n b from least cs before (m + 1) (set after (from + m) v)
-  row-more m after v inside w e =
-      let in-after : from + m < length after = rw (w .size) inside in
-      record {
-        size = length-set after (from + m) v ∙ w .size;
-        kept = λ p h. stored after (from + m) v in-after p (getD before p (pos 0)) (λ q. absurd (omega arith))
-            (λ ne. w .kept p h);
-        row = λ a h. stored after (from + m) v in-after (from + a) (rowValue level first n b from least cs before a)
-            (λ q. let same : m ≡ a = omega arith in e ∙ ap (rowValue level first n b from least cs before) same)
-            (λ ne. w .row a (omega arith));
-      }
-
-  -- the value taken after a part of the row is written is that taken before the row
-  pub row-value : (a m : ℕ) (after : List ℤ) {v : ℤ} → a + 3 < 2 * n → rowsEnd first n b ≤ from
-      → RowWritten level first n b from least cs before m after
-      → v ≡ valueOf (leb level (getD least a 0)) cs after (from + a) first n a b
-      → v ≡ rowValue level first n b from least cs before a
-  row-value a m after parents ends w e =
-      e ∙ ap (cond (leb level (getD least a 0)) (getD cs (from + a) (pos 0)))
-      (two-scale-cong after before first n a b parents (λ p l. w .kept p (omega arith)))
-
-  -- what the sums read is bounded still
-  pub row-bounded : (p m : ℕ) (after : List ℤ) → rowsEnd first n b ≤ p → p ≤ from → BoundedBelow p before
-      → RowWritten level first n b from least cs before m after → BoundedBelow (rowsEnd first n b) after
-  row-bounded p m after ends h bound w k l =
-      subst (λ x. natAbs x ≤ 131072000) (sym (w .kept k (omega arith))) (bound k (omega arith))
-
--- ---- where a row of level L + 1 and its parents stand
-
-pub record RowAt (W H L b first n m from : ℕ) : Type 0 where
-  pub parents : (a : ℕ) → a < m → a + 3 < 2 * n
-  pub ends : rowsEnd first n b ≤ start W H (suc L)
-  pub later : start W H (suc L) ≤ from
-  pub within : start W H (suc L) ≤ slots W H
-  pub inside : (a : ℕ) → a < m → from + a < slots W H
-
-module _ (W H L b : ℕ) {first n m s : ℕ} (hL : L < 3) (hb : b < functions H (suc L)) (begins : first ≡ start W H L)
-    (columns : n ≡ functions W L) (wide : m ≡ functions W (suc L)) (next : s ≡ start W H (suc L)) where
-  rows-end : rowsEnd first n b ≤ start W H (suc L)
-  rows-end =
-      let rows : b / 2 + b % 2 + 2 ≤ functions H L = omega (arith, functions-step H L) in
-      rw (begins, columns)
-      (omega (
-        arith,
-        mul-le-mul-right (functions W L) rows,
-        mul-comm (functions W L) (functions H L),
-        start-step W H L,
-      ))
-
-  pub row-at : RowAt W H L b first n m (s + b * m)
-  row-at = record {
-    parents = λ a h. omega (arith, functions-step W L);
-    ends = rows-end;
-    later = omega arith;
-    within = start-le W H (suc L) 4 (omega arith);
-    inside = λ a h.
-        let there = place-in-slice W H (suc L) a b (omega arith) (rw (← wide) h) hb in
-        rw (next, wide) (omega arith);
-  }
-
-  pub row-done : (level a : ℕ) (least : List ℕ) (cs before after : List ℤ) → level ≡ suc L → a ≡ m
-      → RowWritten level first n b (s + b * m) least cs before a after → CarriedRow W H L b least cs before after
-  row-done level a least cs before after e f w = rw (← wide, ← next, ← begins, ← columns, ← e) (rw f at w)
-
--- ---- a level more
-
-limit-coarse : (L : ℕ) → L ≤ 2 → limit L ≤ 131072000
+limit-coarse : (L : ℕ) → L < 3 → limit L ≤ 131072000
 limit-coarse L h =
-    let power : 64 ^ L ≤ 4096 = pow-le-pow-right {n = 64} (omega arith) {i = L} {j = 2} h in
+    let power : 64 ^ L ≤ 4096 = pow-le-pow-right {n = 64} (omega arith) {i = L} {j = 2} (omega arith) in
     omega (arith, mul-le-mul-left 32000 power)
 
-module _ (W H : ℕ) (map : List ℕ) (cs : List ℤ) where
-  abbrev value : ℕ → ℕ → ℕ → ℤ
-  value L a b = carried W H (levelsOf map) (coefficients W H cs) L a b
+module _ (W H : ℕ) (rows : List ℕ) (cs : List ℤ) where
+  abbrev pub value : ℕ → ℕ → ℕ → ℤ
+  value L a b = carried W H (levelsOf rows) (coefficients W H cs) L a b
 
-  -- the carried values before level 3 are small enough for a sum of them
-  pub carries-bounded : (L p : ℕ) (out : List ℤ) → L < 3 → start W H (suc L) ≤ p → CarriedFit W H map cs
-      → CarriesBelow W H map cs p out → BoundedBelow (start W H (suc L)) out
-  unfolding coefficients
-  carries-bounded L p out hL hp fit c k h =
-      let q = place-of W H (suc L) k h in
-      let four : q .level < 4 = omega (arith, q .level-in) in
-      let there = c .values (q .level) (q .column) (q .row) four (q .column-in) (q .row-in)
-      (omega (arith, q .same)) in
-      let same : getD out k (pos 0) ≡ value (q .level) (q .column) (q .row) =
-      ap (λ k. getD out k (pos 0)) (q .same) ∙ there in
-      rw same
-      (le-trans (fit (q .level) (q .column) (q .row) four (q .column-in) (q .row-in))
-      (limit-coarse (q .level) (omega (arith, q .level-in))))
+  -- a part that holds the carried values of level L
+  pub record Holds (L : ℕ) (s : List ℤ) : Type 0 where
+    pub size : length s ≡ places W H L
+    pub values : (a b : ℕ) → a < functions W L → b < functions H L → getD s (b * functions W L + a) (pos 0) ≡ value L a b
 
-  -- the two-scale sum of the numbers is that of the carried values
-  sum-carried : (L p a b : ℕ) (out : List ℤ) → L < 3 → start W H (suc L) ≤ p → a < functions W (suc L)
-      → b < functions H (suc L) → CarriesBelow W H map cs p out
-      → twoScale out (start W H L) (functions W L) a b
-      ≡ sum2 (functions W L) (functions H L) (λ c d. weight2 c d a b *ℤ value L c d)
-  unfolding coefficients
-  sum-carried L p a b out hL hp ha hb c =
-      sym (parents2 W H L a b ha hb (coefficients W H out L))
-      ∙ sum2-cong (functions W L) (functions H L) (λ c d. weight2 c d a b *ℤ coefficients W H out L c d)
-      (λ c d. weight2 c d a b *ℤ value L c d)
-      λ i j hi hj. ap (λ t. weight2 i j a b *ℤ t)
-      (c .values L i j (omega arith) hi hj (le-trans (place-before W H L (suc L) i j (omega arith) hi hj) hp))
+  -- they are small enough for a sum of them
+  pub holds-within : (L : ℕ) (s : List ℤ) → L < 3 → CarriedFit W H rows cs → Holds L s → Within 131072000 s
+  holds-within L s hL fit h k l =
+      let n = functions W L in
+      let m = functions H L in
+      let q = place-split n m k (omega (arith, h .size, mul-comm n m)) in
+      let same : getD s k (pos 0) ≡ value L (q .0) (q .1) =
+      ap (λ k. getD s k (pos 0)) (q .4) ∙ h .values (q .0) (q .1) (q .2) (q .3) in
+      rw same (le-trans (fit L (q .0) (q .1) (omega arith) (q .2) (q .3)) (limit-coarse L hL))
 
-  module _ (L b : ℕ) (least : List ℕ) (before after : List ℤ) (hL : L < 3) (hb : b < functions H (suc L))
-      (under : (a : ℕ) → a < functions W (suc L) → getD least a 0 ≡ leastUnder W H (levelsOf map) (suc L) a b) where
-    -- each number of the row is the carried value
-    row-carried : CarriesBelow W H map cs (rowStart W H (suc L) b) before → CarriedRow W H L b least cs before after
-        → (a : ℕ) → a < functions W (suc L) → coefficients W H after (suc L) a b ≡ value (suc L) a b
-    unfolding coefficients carried
-    row-carried c w a ha =
-        let at : place W H (suc L) a b ≡ rowStart W H (suc L) b + a = omega arith in
-        ap (λ k. getD after k (pos 0)) at
-        ∙ w .row a ha
-        ∙ ap (λ k. cond (leb (suc L) (getD least a 0)) (getD cs k (pos 0))
-        (twoScale before (start W H L) (functions W L) a b)) (sym at)
-        ∙ ap₂ (λ l t. cond (leb (suc L) l) (getD cs (place W H (suc L) a b) (pos 0)) t) (under a ha)
-        (sum-carried L (rowStart W H (suc L) b) a b before hL
-        (le-add-right (start W H (suc L)) (b * functions W (suc L))) ha hb c)
+  -- the values of the next level are those of the definition
+  pub level-value : (L a b : ℕ) (own s : List ℤ) → Holds L s → a < functions W (L + 1) → b < functions H (L + 1)
+      → getD own (b * functions W (L + 1) + a) (pos 0) ≡ coefficients W H cs (L + 1) a b
+      → carriedAt W H L rows own s a b ≡ value (L + 1) a b
+  unfolding carried
+  level-value L a b own s h ha hb e =
+      let one = add-one L in
+      let sum : childOf a (λ i. columnChild s (functions W L) b (a / 2 + i))
+      ≡ sum2 (functions W L) (functions H L) (λ c d. weight2 c d a b *ℤ value L c d) =
+      two-scale W H L a b s (subst (λ k. a < functions W k) one ha) (subst (λ k. b < functions H k) one hb)
+      ∙ sum2-cong (functions W L) (functions H L)
+      (λ c d. weight2 c d a b *ℤ getD s (d * functions W L + c) (pos 0)) (λ c d. weight2 c d a b *ℤ value L c d)
+      (λ c d hc hd. ap (λ t. weight2 c d a b *ℤ t) (h .values c d hc hd)) in
+      ap₂ (cond (inRegion W H (levelsOf rows) (L + 1) a b)) e sum
+      ∙ ap (λ k. cond (inRegion W H (levelsOf rows) k a b) (coefficients W H cs k a b)
+      (sum2 (functions W L) (functions H L) (λ c d. weight2 c d a b *ℤ value L c d))) one
+      ∙ ap (λ k. value k a b) (sym one)
 
-    pub row-next : CarriesBelow W H map cs (rowStart W H (suc L) b) before → CarriedRow W H L b least cs before after
-        → CarriesBelow W H map cs (rowStart W H (suc L) (b + 1)) after
-    row-next c w = record {
-      size = w .size ∙ c .size;
-      values = λ M i j hM hi hj h. go M i j hM hi hj h
-          (decLt (place W H M i j) (rowStart W H (suc L) b));
-    }
-      where
-        go : (M i j : ℕ) → M < 4 → i < functions W M → j < functions H M
-            → place W H M i j < rowStart W H (suc L) (b + 1) → Dec (place W H M i j < rowStart W H (suc L) b)
-            → coefficients W H after M i j ≡ value M i j
-        go M i j hM hi hj h (yes l) = unfold coefficients in w .kept (place W H M i j) l ∙ c .values M i j hM hi hj l
-        go M i j hM hi hj h (no l) =
-            let n = functions W (suc L) in
-            let wide : (b + 1) * n ≡ b * n + n = ap (λ k. k * n) (add-one b) ∙ suc-mul b n in
-            let a = place W H M i j - rowStart W H (suc L) b in
-            let ha : a < n = omega arith in
-            let at : place W H M i j ≡ place W H (suc L) a b = omega arith in
-            let u = place-unique W H M i j (suc L) a b hi hj ha hb at in
-            rw (u .0, u .2) (row-carried c w i (rw (u .0) at hi))
+  -- ---- all levels
 
-  -- before the first row, and after the last
-  pub rows-none : (L : ℕ) (out : List ℤ) → CarriesBelow W H map cs (start W H (suc L)) out
-      → CarriesBelow W H map cs (rowStart W H (suc L) 0) out
-  rows-none L out c =
-      let e : start W H (suc L) ≡ rowStart W H (suc L) 0 = omega (arith, zero-mul (functions W (suc L))) in
-      subst (λ p. CarriesBelow W H map cs p out) e c
-
-  pub rows-all : (L b : ℕ) (out : List ℤ) → b ≡ functions H (suc L)
-      → CarriesBelow W H map cs (rowStart W H (suc L) b) out → CarriesBelow W H map cs (start W H (suc (suc L))) out
-  rows-all L b out all c =
-      let e : rowStart W H (suc L) b ≡ start W H (suc (suc L)) =
-      ap (λ k. start W H (suc L) + k) (ap (λ k. k * functions W (suc L)) all ∙ mul-comm (functions H (suc L))
-      (functions W (suc L))) ∙ sym (start-step W H (suc L)) in
-      subst (λ p. CarriesBelow W H map cs p out) e c
-
-  -- the copy of level 0
-  pub copy-carries : (n : ℕ) (before after : List ℤ) → n ≡ places W H 0 → length before ≡ slots W H
-      → Copied n cs before after → CarriesBelow W H map cs (start W H 1) after
-  copy-carries n before after sized size c =
-      record { size = c .size ∙ size; values = λ L a b hL ha hb h. go L a b ha hb h }
+  -- level 0 is copied
+  pub level-zero : (n : ℕ) (out new : List ℤ) → n ≡ places W H 0 → length out ≡ slots W H
+      → new ≡ copied (length (take n out)) (take n cs) → Below 1 W H value (new ++ drop n out) (new ++ drop n out)
+  unfolding coefficients carried
+  level-zero n out new sized whole e =
+      record { size = length-front out new n count ∙ whole; values = go; rest = λ i h. refl }
     where
-      go : (L a b : ℕ) → a < functions W L → b < functions H L → place W H L a b < start W H 1
-          → coefficients W H after L a b ≡ value L a b
-      go zero a b ha hb h =
-          unfold coefficients carried start in
-          c .values (place W H 0 a b) (rw sized (omega (arith, starts W H .1)))
-      go (suc L) a b ha hb h = absurd (omega (arith, start-le W H 1 (suc L) (omega arith)))
+      fits : n ≤ length out
+      fits = omega (arith, start-le W H 1 4 (omega arith), starts W H .1)
 
-  -- all levels
-  pub carries-all : (out : List ℤ) → CarriesBelow W H map cs (start W H 4) out → Carries W H map cs out
-  carries-all out c = record {
-    size = c .size;
-    values = λ L a b hL ha hb. c .values L a b hL ha hb (place-in-slice W H L a b hL ha hb);
-  }
+      count : length new ≡ length (take n out)
+      count = ap length e ∙ length-table 0 (length (take n out)) (λ i. getD (take n cs) i (pos 0))
 
--- the least levels found are those of level L + 1
-pub found-under : (W H L b : ℕ) (map minima found : List ℕ) → 0 < W → W ≤ 8 → RowMinima W H (L + 1) map minima
-    → SupportMinima H (L + 1) b minima found → (a : ℕ) → a < functions W (suc L)
-    → getD found a 0 ≡ leastUnder W H (levelsOf map) (suc L) a b
-found-under W H L b map minima found positive small rows s =
-    subst (λ M. (a : ℕ) → a < functions W M → getD found a 0 ≡ leastUnder W H (levelsOf map) M a b) (add-one L)
-    (s .least W map positive small rows)
+      go : (L a b : ℕ) → L < 1 → a < functions W L → b < functions H L
+          → coefficients W H (new ++ drop n out) L a b ≡ value L a b
+      go zero a b h ha hb =
+          let p = place W H 0 a b in
+          let low : p < n = omega (arith, place-before W H 0 1 a b (omega arith) ha hb, starts W H .1) in
+          let within : p < length (take n out) = rw (length-take-le n out fits) low in
+          List·getD-append new (drop n out) (pos 0) p (rw count within)
+          ∙ ap (λ l. getD l p (pos 0)) e
+          ∙ getD-table 0 (length (take n out)) (λ i. getD (take n cs) i (pos 0)) p (pos 0) within
+          ∙ ap (λ k. getD (take n cs) k (pos 0)) (zero-add p)
+          ∙ getD-take n cs p (pos 0) low
+      go (suc L) a b h ha hb = absurd (omega arith)
 
--- level L + 1 is next
-pub level-next : (W H L : ℕ) (map : List ℕ) (cs out : List ℤ) → CarriesBelow W H map cs (start W H (suc (suc L))) out
-    → CarriesBelow W H map cs (start W H (suc (L + 1))) out
-level-next W H L map cs out c = rw (add-one L) c
+  -- the parts of level L and of the next one, in a slice whose levels up to L hold their carried values
+  module _ (L from first size : ℕ) (before out : List ℤ) (hL : L < 3) (at-coarse : from ≡ start W H L)
+      (at-own : first ≡ start W H (L + 1)) (sized : size ≡ places W H (L + 1))
+      (below : Below (L + 1) W H value before out) where
+    abbrev pub two : List ℤ
+    two = take (first + size - from) (drop from out)
+
+    abbrev pub front : List ℤ
+    front = take (places W H L) two
+
+    pub front-first : from + places W H L ≡ first
+    front-first = omega (arith, start-step W H L, ap (start W H) (add-one L))
+
+    pub two-fits : first + size ≤ length out
+    two-fits = rw (below .size) (level-fits W H (L + 1) first size (omega arith) at-own sized)
+
+    pub two-size : length two ≡ places W H L + places W H (L + 1)
+    two-size = simp (length-take, length-drop) (omega (arith, front-first, two-fits))
+
+    front-at : (i : ℕ) → i < places W H L → getD front i (pos 0) ≡ getD out (from + i) (pos 0)
+    front-at i h =
+        getD-take (places W H L) two i (pos 0) h
+        ∙ getD-take (first + size - from) (drop from out) i (pos 0) (omega (arith, front-first))
+        ∙ getD-drop from out i (pos 0)
+
+    front-size : length front ≡ places W H L
+    front-size = length-take-le (places W H L) two (omega (arith, two-size))
+
+    pub front-holds : Holds L front
+    unfolding coefficients
+    front-holds = record {
+      size = front-size;
+      values = λ a b ha hb.
+          let at : ℕ = b * functions W L + a in
+          let low : at < places W H L = omega (
+            arith,
+            place-below (functions W L) (functions H L) a b ha hb,
+            mul-comm (functions W L) (functions H L),
+          ) in
+          front-at at low
+          ∙ ap (λ k. getD out (k + at) (pos 0)) at-coarse
+          ∙ below .values L a b (omega arith) ha hb;
+    }
+
+    -- the level's part is put in its place
+    pub level-carried : (new : List ℤ) → new ≡ levelCarried W H L rows (part first size cs) two
+        → Below (L + 1 + 1) W H value before (take from out ++ (new ++ drop (first + size - from) (drop from out)))
+    unfolding coefficients
+    level-carried new e =
+        level-more W H (L + 1) first value before out g after at-own g-size holds below
+        (replaced-later (pos 0) from first front g out after (omega (arith, front-size, front-first))
+        (λ i h. front-at i (omega (arith, front-size)))
+        (subst (λ l. Replaced (pos 0) from l out after) e
+        (replaced (pos 0) from (first + size - from) new out
+        (ap length e ∙ length-append front g ∙ omega (arith, front-size, g-size, front-first))
+        (omega (arith, two-fits, front-first)))))
+      where
+        n : ℕ
+        n = functions W (L + 1)
+
+        m : ℕ
+        m = functions H (L + 1)
+
+        own : List ℤ
+        own = part first size cs
+
+        g : List ℤ
+        g = grid n m (carriedAt W H L rows own front)
+
+        after : List ℤ
+        after = take from out ++ (new ++ drop (first + size - from) (drop from out))
+
+        g-size : length g ≡ places W H (L + 1)
+        g-size = length-grid n m (carriedAt W H L rows own front) ∙ mul-comm m n
+
+        holds : (a b : ℕ) → a < n → b < m → getD g (b * n + a) (pos 0) ≡ value (L + 1) a b
+        holds a b ha hb =
+            let at : ℕ = b * n + a in
+            let low : at < size = omega (arith, place-below n m a b ha hb, mul-comm n m) in
+            getD-grid n m (carriedAt W H L rows own front) a b (pos 0) ha hb
+            ∙ level-value L a b own front front-holds ha hb
+            (part-at first size cs at low ∙ ap (λ k. getD cs (k + at) (pos 0)) at-own)

@@ -1,4 +1,5 @@
 pub mod SliceLaws
-pub mod StepLaws
-pub mod CarryLaws
+pub mod ChildLaws
+pub mod LevelLaws
 pub mod ClearLaws
+pub mod CarryLaws

@@ -1,5 +1,5 @@
 -- Where a row stands in its level's part, and a level's part in the slice; the elements of a part.
-use mathlib.Core.Path.{_≡_, _∙_}
+use mathlib.Core.Path.{_≡_, sym, ap, subst, _∙_}
 use mathlib.Core.List.{List}
 use Prim.Native.Nat.{ℕ, _+_, _-_, _*_, _≤_, _<_}
 use native.Mathlib.Nat.{mul-comm, suc-mul, mul-le-mul, mul-le-mul-right}
@@ -7,8 +7,9 @@ use native.Mathlib.Omega.{arith}
 use lib.IntN.{ℤ, pos}
 use lib.ListN.{length, getD, take, drop, length-take, length-drop}
 use lib.Seq.{getD-take, getD-drop}
+use Rattle.finite.proofs.Table.{place-below}
 use Rattle.surface.specs.Sheet.{functions}
-use Rattle.surface.specs.Table.{places, start, slots}
+use Rattle.surface.specs.Table.{places, start, slots, coefficients}
 use Rattle.surface.proofs.TableLaws.{start-before}
 
 -- the place of a row, of m rows of n
@@ -40,3 +41,14 @@ pub part-at : (from n : ℕ) (cs : List ℤ) (a : ℕ) → a < n → getD (part 
 part-at from n cs a h =
     let inner : a < from + n - from = omega arith in
     getD-take (from + n - from) (drop from cs) a (pos 0) inner ∙ getD-drop from cs a (pos 0)
+
+-- a coefficient of a level stands in the level's part
+pub level-at : (W H L first size : ℕ) (cs : List ℤ) → first ≡ start W H L → size ≡ places W H L → (a b : ℕ)
+    → a < functions W L → b < functions H L
+    → getD (part first size cs) (b * functions W L + a) (pos 0) ≡ coefficients W H cs L a b
+unfolding coefficients
+level-at W H L first size cs begins sized a b ha hb =
+    part-at first size cs (b * functions W L + a)
+    (subst (λ k. b * functions W L + a < k) (mul-comm (functions H L) (functions W L) ∙ sym sized)
+    (place-below (functions W L) (functions H L) a b ha hb))
+    ∙ ap (λ k. getD cs (k + (b * functions W L + a)) (pos 0)) begins

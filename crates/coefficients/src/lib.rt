@@ -1,5 +1,4 @@
 // The places of a level and where its part of the coefficients' slice starts.
-pub mod faults;
 pub mod fill;
 
 ghost use mathlib.Core.Path.{_≡_};
@@ -7,6 +6,13 @@ ghost use Prim.Native.Nat.{_≤_};
 ghost use Rattle.surface.specs.Sheet as Sheet;
 ghost use Rattle.surface.specs.Table as Table;
 ghost use lib.IntN.{pos};
+
+// A sheet's side is 1 to 8 cells.
+pub fn good_side(n: usize) -> bool
+    ensures { λ r. ⌜ r ≡ Sheet.goodSide n ⌝ }
+{
+    if 1 <= n { n <= 8 } else { false }
+}
 
 // The functions of a level along a side of n cells.
 pub fn functions(n: usize, level: usize) -> usize

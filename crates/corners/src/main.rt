@@ -10,8 +10,8 @@ ghost use lib.ListN.{length, take};
 ghost use Rattle.io.specs.Counts.{Counts};
 ghost use Rattle.surface.specs.Table.{Acceptable, tableReading};
 ghost use Rattle.surface.specs.Calls.{wholeWatts};
-ghost use Rattle.quadtree.specs.Paint.{levelMap};
-ghost use Rattle.point.specs.Painted.{Painted};
+ghost use Rattle.rows.specs.Rows.{levelRows};
+ghost use Rattle.point.specs.OfTable.{OfTable};
 ghost use Rattle.finite.specs.Range.{joined};
 ghost use Rattle.corners.specs.Text.{cornerLine, tableText, cornerText};
 ghost use Rattle.corners.specs.Buffers.{Put, placesOf, placesNamed};
@@ -20,10 +20,10 @@ ghost use Rattle.corners.specs.Buffers.{Put, placesOf, placesNamed};
 fn places_of(w: usize, h: usize) -> usize
     ensures { λ r. ⌜ (r ≡ placesOf w h) × (r ≤ 6196) ⌝ }
 {
-    if !table::cause::good_side(w) {
+    if !coefficients::good_side(w) {
         return 0;
     }
-    if !table::cause::good_side(h) {
+    if !coefficients::good_side(h) {
         return 0;
     }
     coefficients::start(w, h, 4)
@@ -46,33 +46,33 @@ fn wide(b: u8) -> usize
 }
 
 // Whole watts at the corner (u, v), in cells.
-fn watts_at(cs: &[i64], map: &[u8; 1024], w: usize, h: usize, u: usize, v: usize) -> i64
-    requires { ⌜ (u ≤ w) × (v ≤ h) × Painted w h (now map) (now cs) ⌝ }
-    ensures { λ r. ⌜ ((t : List ℕ) → now (map .entry) ≡ levelMap t → Acceptable w h t (now (cs .entry))
+fn watts_at(cs: &[i64], rows: &[u32; 96], w: usize, h: usize, u: usize, v: usize) -> i64
+    requires { ⌜ (u ≤ w) × (v ≤ h) × OfTable w h (now rows) (now cs) ⌝ }
+    ensures { λ r. ⌜ ((t : List ℕ) → now (rows .entry) ≡ levelRows t → Acceptable w h t (now (cs .entry))
         → r ≡ wholeWatts (tableReading w h t (now (cs .entry)) (128 * u) (128 * v))) × (natAbs r ≤ 60000) ⌝ }
 {
-    rounding::whole_watts(point::reading_at(cs, map, w, h, 128 * u, 128 * v))
+    rounding::whole_watts(point::reading_at(cs, rows, w, h, 128 * u, 128 * v))
 }
 
 // One row of corners, u rising. A line has at most 11 bytes.
 fn row(
     cs: &[i64],
-    map: &[u8; 1024],
+    rows: &[u32; 96],
     w: usize,
     h: usize,
     v: usize,
     out: &mut [u8],
     start: usize,
 ) -> usize
-    requires { ⌜ (v ≤ h) × Painted w h (now map) (now cs) × (start + 99 ≤ length (now out)) ⌝ }
-    ensures { λ r. ⌜ ((t : List ℕ) → now (map .entry) ≡ levelMap t → Acceptable w h t (now (cs .entry))
+    requires { ⌜ (v ≤ h) × OfTable w h (now rows) (now cs) × (start + 99 ≤ length (now out)) ⌝ }
+    ensures { λ r. ⌜ ((t : List ℕ) → now (rows .entry) ≡ levelRows t → Acceptable w h t (now (cs .entry))
         → Put (joined (w + 1) (cornerLine w h t (now (cs .entry)) v)) start (now (out .entry)) r (now (out .exit)))
         × (r ≤ start + 99) ⌝ }
 {
     let mut at = start;
     let mut u = 0;
     while u <= w {
-        let watts = watts_at(cs, map, w, h, u, v);
+        let watts = watts_at(cs, rows, w, h, u, v);
         at = text::line(u, v, watts, out, at);
         u += 1;
     }
@@ -85,11 +85,12 @@ fn table_text(tree: &[u8], cs: &[i64], w: usize, h: usize, out: &mut [u8]) -> us
     ensures { λ r. ⌜ Put (tableText w h (now (tree .entry)) (now (cs .entry))) 0 (now (out .entry)) r (now (out .exit))
         × (r ≤ 901) ⌝ }
 {
-    let map = quadtree::paint::paint(tree);
+    let mut rows = [0u32; 96];
+    quadtree::walk::regions(tree, w, h, &mut rows);
     let mut at = text::header(out);
     let mut v = 0;
     while v <= h {
-        at = row(cs, &map, w, h, v, out, at);
+        at = row(cs, &rows, w, h, v, out, at);
         v += 1;
     }
     at

@@ -14,7 +14,7 @@ use Rattle.surface.specs.Sheet.{cells, functions}
 use Rattle.surface.specs.Calls.{indexFits, index}
 use Rattle.surface.proofs.Least.{both}
 use Rattle.coefficients.proofs.FaultLaws.{above, below, between}
-use Rattle.activity.proofs.MinimaLaws.{functions-le}
+use Rattle.activity.proofs.WindowLaws.{functions-le}
 
 -- ---- a number c and its limit m, which is in z
 

@@ -12,7 +12,7 @@ ghost use Rattle.surface.specs.Support.{active};
 ghost use Rattle.surface.specs.Table.{limit};
 ghost use Rattle.surface.specs.Calls.{freshCause, freshOutcome, indexFits, setCause, setOutcome};
 ghost use Rattle.surface.specs.Calls as Calls;
-ghost use Rattle.activity.specs.Minima.{levelsOf};
+ghost use Rattle.rows.specs.Rows.{levelsOf, Nested};
 ghost use Rattle.answers.specs.Answers.{lengthAnswer, outcomeAnswer};
 
 // Whether both sides are 1 to 8.
@@ -113,29 +113,29 @@ fn index(n: usize, level: usize, i: i64) -> usize
     (i + 3) as usize
 }
 
-// Whether the function with these indices is active under the levels of a map.
-fn is_active(map: &[u8; 1024], w: usize, h: usize, level: usize, a: usize, b: usize) -> bool
-    requires { ⌜ (0 < w) × (w ≤ 8) × (h ≤ 8) × (level ≤ 3) × (a < functions w level) × (b < functions h level) ⌝ }
-    ensures { λ r. ⌜ r ≡ active w h (levelsOf (now (map .entry))) level a b ⌝ }
+// Whether the function with these indices is active under the levels of the rows.
+fn is_active(rows: &[u32; 96], w: usize, h: usize, level: usize, a: usize, b: usize) -> bool
+    requires { ⌜ (w ≤ 8) × (h ≤ 8) × (level ≤ 3) × (a < functions w level) × (b < functions h level)
+        × Nested (now rows) ⌝ }
+    ensures { λ r. ⌜ r ≡ active w h (levelsOf (now (rows .entry))) level a b ⌝ }
 {
-    let n = coefficients::functions(w, level);
-    let minima = activity::row_minima(map, w, h, level, n);
-    let least = activity::support_minima(&minima, h, level, b);
-    least[a] == level as u8
+    let marks = activity::active_row(rows, w, h, level, b);
+    let e = activity::eighths(level);
+    activity::is_marked(marks, a, e)
 }
 
-// Whether (i, j) is an active function of the level, under the levels of a map.
-fn settable(map: &[u8; 1024], w: usize, h: usize, level: usize, i: i64, j: i64) -> bool
-    requires { ⌜ (0 < w) × (w ≤ 8) × (h ≤ 8) × (level ≤ 3) ⌝ }
+// Whether (i, j) is an active function of the level, under the levels of the rows.
+fn settable(rows: &[u32; 96], w: usize, h: usize, level: usize, i: i64, j: i64) -> bool
+    requires { ⌜ (w ≤ 8) × (h ≤ 8) × (level ≤ 3) × Nested (now rows) ⌝ }
     ensures { λ r. ⌜ r ≡ (indexFits w level i
         && indexFits h level j
-        && active w h (levelsOf (now (map .entry))) level (Calls.index i) (Calls.index j)) ⌝ }
+        && active w h (levelsOf (now (rows .entry))) level (Calls.index i) (Calls.index j)) ⌝ }
 {
     if index_fits(w, level, i) {
         if index_fits(h, level, j) {
             let a = index(w, level, i);
             let b = index(h, level, j);
-            return is_active(map, w, h, level, a, b);
+            return is_active(rows, w, h, level, a, b);
         }
     }
     false
@@ -154,15 +154,15 @@ fn set_cause(
 ) -> u8
     ensures { λ r. ⌜ r ≡ setCause w h (now (t .entry)) (now (cs .entry)) level i j number ⌝ }
 {
-    let mut map = [0u8; 1024];
-    let cause = table::cause::check(w, h, t, cs, &mut map);
+    let mut rows = [0u32; 96];
+    let cause = table::cause::check(w, h, t, cs, &mut rows);
     if cause != 0 {
         return cause;
     }
     if 3 < level {
         return 8;
     }
-    if settable(&map, w, h, level, i, j) {
+    if settable(&rows, w, h, level, i, j) {
         if past(number, level) {
             return 10;
         }

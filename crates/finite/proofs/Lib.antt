@@ -1,3 +1,4 @@
+pub mod Bits
 pub mod Extremum
 pub mod Four
 pub mod Int

@@ -3,12 +3,12 @@ ghost use mathlib.Core.Path.{_≡_};
 ghost use mathlib.Core.List.{List};
 ghost use Prim.Native.Nat.{ℕ};
 ghost use Rattle.demands.specs.Promises.{InsertPromise};
-ghost use Rattle.quadtree.specs.Paint.{levelMap};
+ghost use Rattle.rows.specs.Rows.{levelRows};
 ghost use Rattle.quadtree.specs.Visit.{boxOf};
 ghost use Rattle.answers.specs.Answers.{lengthAnswer};
 ghost use Rattle.insertion.specs.Inserted.{causeTo16, Insertable, Inserts};
 
-// The lowest of causes 1 to 16 that refuses an insertion, or 0, with the map of levels where none does.
+// The lowest of causes 1 to 16 that refuses an insertion, or 0, with the regions where none does.
 fn insert_cause(
     w: usize,
     h: usize,
@@ -17,13 +17,13 @@ fn insert_cause(
     a: quadtree::visit::Area,
     level: usize,
     numbers_out: &[i64],
-    map: &mut [u8; 1024],
+    rows: &mut [u32; 96],
 ) -> u8
     ensures { λ r. ⌜ (r ≡ causeTo16 w h (now (tree .entry)) (now (cs .entry)) (boxOf a) level
         (now («numbers_out» .entry)))
-        × (r ≡ 0 → now (map .exit) ≡ levelMap (now (tree .entry))) ⌝ }
+        × (r ≡ 0 → now (rows .exit) ≡ levelRows (now (tree .entry))) ⌝ }
 {
-    let refusal = table::cause::check(w, h, tree, cs, map);
+    let refusal = table::cause::check(w, h, tree, cs, rows);
     if refusal != 0 {
         return refusal;
     }
@@ -48,27 +48,25 @@ fn insert_box(
     w: usize,
     h: usize,
     cs: &[i64],
-    map: &[u8; 1024],
+    rows: &[u32; 96],
     a: quadtree::visit::Area,
-    level: u8,
+    level: usize,
     tree_out: &mut [u8],
     numbers_out: &mut [i64],
 ) -> answers::Length
-    requires { ⌜ ((t : List ℕ) × Insertable w h t (now cs) (boxOf a) level (now «numbers_out») (now map)) ⌝ }
-    ensures { λ r. ⌜ Inserts w h (now (map .entry)) (now (cs .entry)) (boxOf a) level (now («tree_out» .entry))
+    requires { ⌜ ((t : List ℕ) × Insertable w h t (now cs) (boxOf a) level (now «numbers_out») (now rows)) ⌝ }
+    ensures { λ r. ⌜ Inserts w h (now (rows .entry)) (now (cs .entry)) (boxOf a) level (now («tree_out» .entry))
         (now («numbers_out» .entry)) (lengthAnswer r) (now («tree_out» .exit)) (now («numbers_out» .exit)) ⌝ }
 {
-    let mut raised = *map;
-    regions::raise::raise(&mut raised, a, level);
-    let new = &raised;
+    let mut new = *rows;
     let mut built = [0u8; 1365];
-    let n = regions::build::build(new, &mut built);
+    let n = regions::insert::insert(&mut new, a, level, &mut built);
     if tree_out.len() < n {
         return answers::Length::Refused(17);
     }
-    regions::put::put(&built[0..n], tree_out);
-    carry::carry::carry_all(cs, map, w, h, numbers_out);
-    carry::clear::clear_passive(numbers_out, new, w, h);
+    buffers::put(&built[0..n], tree_out);
+    carry::values::carry_all(cs, rows, w, h, numbers_out);
+    carry::clear::clear_passive(numbers_out, &new, w, h);
     answers::Length::Bytes(n)
 }
 
@@ -96,11 +94,11 @@ pub fn insert(
         }) r
         (now («tree_out» .exit)) (now («numbers_out» .exit)) ⌝ }
 {
-    let mut map = [0u8; 1024];
+    let mut rows = [0u32; 96];
     let a = quadtree::visit::Area { u0, v0, u1, v1 };
-    let cause = insert_cause(w, h, tree, cs, a, level, numbers_out, &mut map);
+    let cause = insert_cause(w, h, tree, cs, a, level, numbers_out, &mut rows);
     if cause != 0 {
         return answers::Length::Refused(cause);
     }
-    insert_box(w, h, cs, &map, a, level as u8, tree_out, numbers_out)
+    insert_box(w, h, cs, &rows, a, level, tree_out, numbers_out)
 }

@@ -17,7 +17,7 @@ use Rattle.surface.specs.TableFile as TableFile
 use Rattle.surface.specs.TableFile.{faulty, body, lengthAt, field, File, declined, fileOr}
 use Rattle.surface.specs.TableFile.{activeCount, allWithin, levelFields, fileContents}
 use Rattle.surface.proofs.TableLaws.{good-side}
-use Rattle.quadtree.specs.Paint.{levelMap}
+use Rattle.rows.specs.Rows.{levelRows}
 use Rattle.loading.specs.declared.field.Field as F
 use Rattle.loading.specs.declared.field.Field.{Field}
 use Rattle.loading.specs.Fields.{between, bodyAt, fieldAt, ends}
@@ -93,20 +93,20 @@ module _ (file : List ℕ) where
 
 -- ---- the tree
 
-pub head-faulty : (file map : List ℕ) (r : Field) (n : ℕ) → r ≡ F.the-variants.Faulty n → sidesJudged r file
-    → headJudged r file map
-head-faulty file map r n q s =
-    subst (λ r. headJudged r file map) (sym q) (subst (λ r. sidesJudged r file) q s)
+pub head-faulty : (file rows : List ℕ) (r : Field) (n : ℕ) → r ≡ F.the-variants.Faulty n → sidesJudged r file
+    → headJudged r file rows
+head-faulty file rows r n q s =
+    subst (λ r. headJudged r file rows) (sym q) (subst (λ r. sidesJudged r file) q s)
 
 module _ (file : List ℕ) (s : Sides file) (r : Field)
     (e : fieldAt r file 5 ≡ field 2 (between 1 1365) (drop 5 file)) where
-  pub tree-faulty : (map : List ℕ) (n : ℕ) → r ≡ F.the-variants.Faulty n → headJudged r file map
+  pub tree-faulty : (rows : List ℕ) (n : ℕ) → r ≡ F.the-variants.Faulty n → headJudged r file rows
   unfolding fileContents
-  tree-faulty map n q =
+  tree-faulty rows n q =
       let f : faulty n ≡ field 2 (between 1 1365) (drop 5 file) = known file 5 q e in
       let c : fileContents file ≡ declined n =
       rw (s .sides, first-side file, second-side file, s .good-W, s .good-H, ← f) in
-      subst (λ r. headJudged r file map) (sym q) c
+      subst (λ r. headJudged r file rows) (sym q) c
 
   module _ (end : ℕ) (q : r ≡ F.the-variants.Body end) (k : ends r file 5 1 1365) where
     pub tree-size : (8 ≤ end) × (end ≤ length file)
@@ -124,13 +124,11 @@ module _ (file : List ℕ) (s : Sides file) (r : Field)
         rw (s .sides, first-side file, second-side file, s .good-W, s .good-H, ← f)
 
     module _ (W H : ℕ) (first : W ≡ sheetW file) (second : H ≡ sheetH file) where
-      pub tree-good : (map : List ℕ) → formed W H (treeOf (treeIn file end)) ≡ true
-          → map ≡ levelMap (treeIn file end) → Head file end (sheetW file) (sheetH file) map
-      tree-good map u painted =
-          let w = good-side (sheetW file) (s .good-W) in
+      pub tree-good : (rows : List ℕ) → formed W H (treeOf (treeIn file end)) ≡ true
+          → rows ≡ levelRows (treeIn file end) → Head file end (sheetW file) (sheetH file) rows
+      tree-good rows u painted =
           record {
-            positive = w .0;
-            small-W = w .1;
+            small-W = good-side (sheetW file) (s .good-W) .1;
             small-H = good-side (sheetH file) (s .good-H) .1;
             low = tree-size .0;
             size = tree-size .1;
@@ -142,10 +140,10 @@ module _ (file : List ℕ) (s : Sides file) (r : Field)
       tree-bad u = here ∙ rw (← first, ← second, u)
 
 -- by the sides as they were read
-pub head-same : (file map : List ℕ) (end W H : ℕ) → W ≡ sheetW file → H ≡ sheetH file
-    → Head file end (sheetW file) (sheetH file) map → Head file end W H map
-head-same file map end W H p q h =
-    subst (λ W. Head file end W H map) (sym p) (subst (λ H. Head file end (sheetW file) H map) (sym q) h)
+pub head-same : (file rows : List ℕ) (end W H : ℕ) → W ≡ sheetW file → H ≡ sheetH file
+    → Head file end (sheetW file) (sheetH file) rows → Head file end W H rows
+head-same file rows end W H p q h =
+    subst (λ W. Head file end W H rows) (sym p) (subst (λ H. Head file end (sheetW file) H rows) (sym q) h)
 
 -- ---- a level
 

@@ -1,7 +1,6 @@
 pub mod FieldLaws
 pub mod NumberLaws
-pub mod CountLaws
-pub mod LoadLaws
+pub mod LevelLaws
 pub mod JudgeLaws
 pub mod FileLaws
 pub mod ReadLaws

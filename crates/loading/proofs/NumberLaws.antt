@@ -3,6 +3,8 @@ use mathlib.Core.Path.{_≡_, refl, sym, ap, _∙_}
 use mathlib.Core.Bool.{Bool, true, false}
 use mathlib.Core.List.{List}
 use Prim.Native.Nat.{ℕ, zero, suc, _+_, _-_, _*_, _^_, _≤_, _<_}
+use native.Mathlib.Nat.{mul-le-mul-left, pow-le-pow-right}
+use native.Mathlib.Decide.{decLt}
 use native.Mathlib.Numerals.{add-one}
 use native.Mathlib.Omega.{arith}
 use borrow.Author.Tests.{lt-ltb, le-ltb, le-leb, lt-leb}
@@ -52,28 +54,51 @@ negative b k n e h =
 abbrev pub keeps : ℕ → List ℕ → ℕ → Bool
 keeps L b k = leb (natAbs (numberAt b k)) (limit L)
 
+pub limit-small : (L : ℕ) → L ≤ 3 → limit L < 549755813888
+limit-small L h =
+    let power : 64 ^ L ≤ 262144 = pow-le-pow-right {n = 64} (omega arith) {i = L} {j = 3} h in
+    omega (arith, mul-le-mul-left 32000 power)
+
 pub within-none : (L : ℕ) (b : List ℕ) → true ≡ every 0 (keeps L b)
 unfolding every
 within-none L b = refl
-
-pub within-more : (L : ℕ) (b : List ℕ) (k : ℕ) {z : ℤ} → true ≡ every k (keeps L b) → z ≡ numberAt b k
-    → natAbs z ≤ limit L → true ≡ every (k + 1) (keeps L b)
-unfolding every
-within-more L b k e q h =
-    rw (add-one k, ← e, ← q) (sym (le-leb _ (limit L) h))
 
 pub within-all : (L : ℕ) (b : List ℕ) (k n : ℕ) → k ≡ n → true ≡ every k (keeps L b) → true ≡ allWithin L n b
 unfolding allWithin
 within-all L b k n e h = rw (← e) h
 
-pub within-lost : (L : ℕ) (b : List ℕ) (n k : ℕ) {z : ℤ} → k < n → z ≡ numberAt b k → limit L < natAbs z
-    → false ≡ allWithin L n b
-unfolding allWithin
-within-lost L b n k {z} l q h = go (every n (keeps L b)) refl
-  where
-    past : keeps L b k ≡ false
-    past = ap (λ z. leb (natAbs z) (limit L)) (sym q) ∙ lt-leb (natAbs z) (limit L) h
+module _ (L : ℕ) (b : List ℕ) (k x m : ℕ) (low : L ≤ 3) (e : x ≡ unsignedAt b k) (small : x < 1099511627776)
+    (bound : m ≡ limit L) where
+  -- up to the limit, and from the least of the negative ones that keep it on
+  keeps-limit : x ≤ m → keeps L b k ≡ true
+  keeps-limit h = rw (← e, lt-ltb x (2 ^ 39) (omega (arith, limit-small L low))) (le-leb x (limit L) (omega arith))
 
-    go : (t : Bool) → every n (keeps L b) ≡ t → false ≡ t
-    go true e = sym past ∙ every-true n (keeps L b) e k l
-    go false e = refl
+  keeps-below : 1099511627776 - m ≤ x → keeps L b k ≡ true
+  keeps-below h =
+      rw (← e, le-ltb x (2 ^ 39) (omega (arith, limit-small L low))) (le-leb (suc (2 ^ 40 - 1 - x)) (limit L) (omega arith))
+
+  past : m < x → x < 1099511627776 - m → keeps L b k ≡ false
+  past over under = go (decLt x (2 ^ 39))
+    where
+      go : Dec (x < 2 ^ 39) → keeps L b k ≡ false
+      go (yes l) = rw (← e, lt-ltb x (2 ^ 39) l) (lt-leb x (limit L) (omega arith))
+      go (no l) =
+          rw (← e, le-ltb x (2 ^ 39) (omega arith)) (lt-leb (suc (2 ^ 40 - 1 - x)) (limit L) (omega arith))
+
+  pub within-more : true ≡ every k (keeps L b) → (m < x → x < 1099511627776 - m → ⊥)
+      → true ≡ every (k + 1) (keeps L b)
+  unfolding every
+  within-more h not = rw (add-one k, ← h) (sym (go (decLt m x) (decLt x (1099511627776 - m))))
+    where
+      go : Dec (m < x) → Dec (x < 1099511627776 - m) → keeps L b k ≡ true
+      go (no l) d = keeps-limit (omega arith)
+      go (yes l) (yes d) = absurd (not l d)
+      go (yes l) (no d) = keeps-below (omega arith)
+
+  pub within-lost : (n : ℕ) → k < n → m < x → x < 1099511627776 - m → false ≡ allWithin L n b
+  unfolding allWithin
+  within-lost n l over under = go (every n (keeps L b)) refl
+    where
+      go : (t : Bool) → every n (keeps L b) ≡ t → false ≡ t
+      go true e = sym (past over under) ∙ every-true n (keeps L b) e k l
+      go false e = refl

@@ -15,7 +15,8 @@ use Rattle.surface.specs.TableFile.{FileResult, fileOutcomeOf, fileOutcome}
 use Rattle.surface.proofs.TableLaws.{orElse-none, cause-none}
 use Rattle.surface.proofs.Refusals.{cause-off}
 use Rattle.answers.proofs.AnswerLaws.{refusal, kept}
-use Rattle.loading.specs.Judged.{treeIn, levelsHold, lastly}
+use Rattle.loading.specs.Judged.{treeIn, Holds, lastly}
+use Rattle.loading.proofs.FileLaws.{tree-length}
 
 pub read-declined : (file tree : List ℕ) (numbers : List ℤ) (n : ℕ) → fileContents file ≡ declined n
     → (refused n ≡ (fileOutcome file tree numbers) .result)
@@ -23,9 +24,6 @@ pub read-declined : (file tree : List ℕ) (numbers : List ℤ) (n : ℕ) → fi
     × (numbers ≡ (fileOutcome file tree numbers) .numbers)
 unfolding fileOutcome
 read-declined file tree numbers n e = rw e (refl, refl, refl)
-
-pub tree-length : (file : List ℕ) (end : ℕ) → end ≤ length file → length (treeIn file end) ≡ end - 8
-tree-length file end h = simp (length-take, length-drop) (omega arith)
 
 -- nothing is left after the last field
 none-left : (W H : ℕ) (t s : List ℕ) (found : List ℤ) → ltb 0 (length s) ≡ false
@@ -97,9 +95,8 @@ module _ (file : List ℕ) (end last W H : ℕ) (tree : List ℕ) (numbers found
         ltb-false (length tree) (end - 8) (cause-off 16 (ltb (length tree) (end - 8)) (u .1)),
       )
 
-pub fields-hold : (file : List ℕ) (end last W H : ℕ) (found : List ℤ)
-    → levelFields W H (treeIn file end) 4 0 [] (drop end file)
-    ≡ levelFields W H (treeIn file end) 0 4 found (drop last file)
-    → ltb 0 (length file - last) ≡ false → levelsHold file end W H found
-fields-hold file end last W H found e h =
+pub file-holds : (file : List ℕ) (end last W H : ℕ) (found : List ℤ)
+    → fileContents file ≡ levelFields W H (treeIn file end) 0 4 found (drop last file)
+    → ltb 0 (length file - last) ≡ false → Holds file end W H found
+file-holds file end last W H found e h =
     e ∙ none-left W H (treeIn file end) (drop last file) found (ap (λ n. ltb 0 n) (length-drop last file) ∙ h)

@@ -12,7 +12,7 @@ use Rattle.surface.specs.TableFile.{body, declined, contains, field, levelField
 use Rattle.surface.specs.TableFile.{fileOutcome}
 use Rattle.answers.specs.declared.File as Answers
 use Rattle.answers.specs.Answers.{fileAnswer}
-use Rattle.quadtree.specs.Paint.{levelMap}
+use Rattle.rows.specs.Rows.{levelRows}
 use Rattle.loading.specs.declared.field.Field as F
 use Rattle.loading.specs.declared.field.Field.{Field}
 use Rattle.loading.specs.Fields.{bodyAt}
@@ -45,18 +45,17 @@ sidesJudged (F.the-variants.Faulty c) file = fileContents file ≡ declined c
 
 -- ---- the tree after them
 
-pub record Head (file : List ℕ) (end W H : ℕ) (map : List ℕ) : Type 0 where
-  pub positive : 0 < W
+pub record Head (file : List ℕ) (end W H : ℕ) (rows : List ℕ) : Type 0 where
   pub small-W : W ≤ 8
   pub small-H : H ≤ 8
   pub low : 8 ≤ end
   pub size : end ≤ length file
-  pub painted : map ≡ levelMap (treeIn file end)
+  pub painted : rows ≡ levelRows (treeIn file end)
   pub contents : fileContents file ≡ levelFields W H (treeIn file end) 4 0 [] (drop end file)
 
 abbrev pub headJudged : Field → List ℕ → List ℕ → Type 0
-headJudged (F.the-variants.Body end) file map = Head file end (sheetW file) (sheetH file) map
-headJudged (F.the-variants.Faulty c) file map = fileContents file ≡ declined c
+headJudged (F.the-variants.Body end) file rows = Head file end (sheetW file) (sheetH file) rows
+headJudged (F.the-variants.Faulty c) file rows = fileContents file ≡ declined c
 
 -- ---- the levels
 
@@ -82,11 +81,10 @@ abbrev pub levelsJudged : Field → List ℕ → ℕ → ℕ → ℕ → List �
 levelsJudged (F.the-variants.Body last) file at W H t = levelsEnd file at last W H t
 levelsJudged (F.the-variants.Faulty c) file at W H t = levelFields W H t 4 0 [] (drop at file) ≡ declined c
 
--- the fields from a position on hold these coefficients
-abbrev pub levelsHold : List ℕ → ℕ → ℕ → ℕ → List ℤ → Type 0
-levelsHold file end W H numbers =
-    levelFields W H (treeIn file end) 4 0 [] (drop end file)
-    ≡ contains (record { W = W; H = H; tree = treeIn file end; numbers = numbers })
+-- the file holds a table with the tree whose field ends before a position, and these coefficients
+abbrev pub Holds : List ℕ → ℕ → ℕ → ℕ → List ℤ → Type 0
+Holds file end W H numbers =
+    fileContents file ≡ contains (record { W = W; H = H; tree = treeIn file end; numbers = numbers })
 
 -- ---- the call
 

@@ -1,14 +1,12 @@
-// The judgement of a file in byte order. Nothing is written but the map of levels.
+// The judgement of a file in byte order. Nothing is written but the rows of the regions.
 use super::bytes::wide;
 use super::field::Field;
 use super::field::field_at;
 ghost use mathlib.Core.Path.{_≡_};
-ghost use mathlib.Core.Bool.{true};
 ghost use mathlib.Core.List.{List};
 ghost use Prim.Native.Nat.{ℕ, _≤_, _<_};
 ghost use lib.ListN.{length};
-ghost use Rattle.surface.specs.Table.{treeOf, formed};
-ghost use Rattle.quadtree.specs.Paint.{levelMap};
+ghost use Rattle.rows.specs.Rows.{levelRows, Nested};
 ghost use Rattle.loading.specs.Judged.{sheetW, sheetH, Sides, sidesJudged, headJudged};
 ghost use Rattle.loading.specs.Judged.{inFile, levelJudged, levelsJudged};
 
@@ -22,49 +20,36 @@ fn sides_judge(file: &[u8]) -> Field
     };
     let w = wide(file[3]);
     let h = wide(file[4]);
-    if table::cause::good_side(w) {
-        if table::cause::good_side(h) {
+    if coefficients::good_side(w) {
+        if coefficients::good_side(h) {
             return f;
         }
     }
     Field::Faulty(1)
 }
 
-// Whether a tree is of the form, with its map of levels if it is.
-fn formed_map(t: &[u8], w: usize, h: usize, map: &mut [u8; 1024]) -> bool
-    requires { ⌜ (w ≤ 8) × (h ≤ 8) ⌝ }
-    ensures { λ r. ⌜ (r ≡ formed w h (treeOf (now (t .entry))))
-        × (r ≡ true → now (map .exit) ≡ levelMap (now (t .entry))) ⌝ }
-{
-    if quadtree::check::well_formed(t, w, h) {
-        *map = quadtree::paint::paint(t);
-        return true;
-    }
-    false
-}
-
 // The field of the tree after good sides, and the tree in it.
-fn tree_judge(file: &[u8], w: usize, h: usize, map: &mut [u8; 1024]) -> Field
+fn tree_judge(file: &[u8], w: usize, h: usize, rows: &mut [u32; 96]) -> Field
     requires { ⌜ Sides (now file) × (w ≡ sheetW (now file)) × (h ≡ sheetH (now file)) ⌝ }
-    ensures { λ r. ⌜ headJudged r (now (file .entry)) (now (map .exit)) ⌝ }
+    ensures { λ r. ⌜ headJudged r (now (file .entry)) (now (rows .exit)) ⌝ }
 {
     let f = field_at(file, 5, 2, 1, 1365);
     let Field::Body(end) = f else {
         return f;
     };
-    if formed_map(&file[8..end], w, h, map) {
+    if quadtree::walk::regions(&file[8..end], w, h, rows) {
         return f;
     }
     Field::Faulty(2)
 }
 
 // The field of a level, and the coefficients in it.
-fn level_judge(file: &[u8], at: usize, map: &[u8; 1024], w: usize, h: usize, level: usize) -> Field
-    requires { ⌜ (0 < w) × (w ≤ 8) × (h ≤ 8) × (level ≤ 3) × (at ≤ length (now file)) ⌝ }
-    ensures { λ r. ⌜ inFile r (now (file .entry)) × ((t : List ℕ) → now (map .entry) ≡ levelMap t
+fn level_judge(file: &[u8], at: usize, rows: &[u32; 96], w: usize, h: usize, level: usize) -> Field
+    requires { ⌜ (w ≤ 8) × (h ≤ 8) × (level ≤ 3) × (at ≤ length (now file)) × Nested (now rows) ⌝ }
+    ensures { λ r. ⌜ inFile r (now (file .entry)) × ((t : List ℕ) → now (rows .entry) ≡ levelRows t
         → levelJudged r (now (file .entry)) at w h level t) ⌝ }
 {
-    let count = super::count::active_count(map, w, h, level);
+    let count = activity::count::active_count(rows, w, h, level);
     let n = 5 * count;
     let tag = 16 + level as u8;
     let f = field_at(file, at, tag, n, n);
@@ -79,15 +64,15 @@ fn level_judge(file: &[u8], at: usize, map: &[u8; 1024], w: usize, h: usize, lev
 }
 
 // The fields of the levels from a position on, and the position after them.
-pub fn levels_judge(file: &[u8], from: usize, map: &[u8; 1024], w: usize, h: usize) -> Field
-    requires { ⌜ (0 < w) × (w ≤ 8) × (h ≤ 8) × (from ≤ length (now file)) ⌝ }
-    ensures { λ r. ⌜ inFile r (now (file .entry)) × ((t : List ℕ) → now (map .entry) ≡ levelMap t
+pub fn levels_judge(file: &[u8], from: usize, rows: &[u32; 96], w: usize, h: usize) -> Field
+    requires { ⌜ (w ≤ 8) × (h ≤ 8) × (from ≤ length (now file)) × Nested (now rows) ⌝ }
+    ensures { λ r. ⌜ inFile r (now (file .entry)) × ((t : List ℕ) → now (rows .entry) ≡ levelRows t
         → levelsJudged r (now (file .entry)) from w h t) ⌝ }
 {
     let mut at = from;
     let mut level = 0;
     while level < 4 {
-        let f = level_judge(file, at, map, w, h, level);
+        let f = level_judge(file, at, rows, w, h, level);
         let Field::Body(end) = f else {
             return f;
         };
@@ -98,8 +83,8 @@ pub fn levels_judge(file: &[u8], from: usize, map: &[u8; 1024], w: usize, h: usi
 }
 
 // The fields before the levels', and the position after them.
-pub fn head_judge(file: &[u8], map: &mut [u8; 1024]) -> Field
-    ensures { λ r. ⌜ headJudged r (now (file .entry)) (now (map .exit)) ⌝ }
+pub fn head_judge(file: &[u8], rows: &mut [u32; 96]) -> Field
+    ensures { λ r. ⌜ headJudged r (now (file .entry)) (now (rows .exit)) ⌝ }
 {
     let sides = sides_judge(file);
     let Field::Body(_) = sides else {
@@ -107,5 +92,5 @@ pub fn head_judge(file: &[u8], map: &mut [u8; 1024]) -> Field
     };
     let w = wide(file[3]);
     let h = wide(file[4]);
-    tree_judge(file, w, h, map)
+    tree_judge(file, w, h, rows)
 }

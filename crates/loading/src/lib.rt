@@ -1,6 +1,5 @@
 // The call that reads a table file: judged whole in byte order first, then written.
 mod bytes;
-mod count;
 mod field;
 mod judge;
 mod load;
@@ -36,13 +35,13 @@ fn fill(
     file: &[u8],
     end: usize,
     last: usize,
-    map: &[u8; 1024],
+    rows: &[u32; 96],
     w: usize,
     h: usize,
     tree_out: &mut [u8],
     numbers_out: &mut [i64],
 ) -> answers::File
-    requires { ⌜ Head (now file) end w h (now map) × (last ≤ length (now file))
+    requires { ⌜ Head (now file) end w h (now rows) × (last ≤ length (now file))
         × levelsEnd (now file) end last w h (treeIn (now file) end) ⌝ }
     ensures { λ r. ⌜ Reads (now (file .entry)) (now («tree_out» .entry)) (now («numbers_out» .entry)) r
         (now («tree_out» .exit)) (now («numbers_out» .exit)) ⌝ }
@@ -59,8 +58,8 @@ fn fill(
     if cause != 0 {
         return answers::File::Refused(cause);
     }
-    regions::put::put(&file[8..end], tree_out);
-    load::load_levels(file, end, map, w, h, numbers_out);
+    buffers::put(&file[8..end], tree_out);
+    load::load_levels(file, end, rows, w, h, numbers_out);
     answers::File::Loaded {
         length: bytes,
         w,
@@ -72,20 +71,20 @@ fn fill(
 fn read_levels(
     file: &[u8],
     end: usize,
-    map: &[u8; 1024],
+    rows: &[u32; 96],
     tree_out: &mut [u8],
     numbers_out: &mut [i64],
 ) -> answers::File
-    requires { ⌜ Head (now file) end (sheetW (now file)) (sheetH (now file)) (now map) ⌝ }
+    requires { ⌜ Head (now file) end (sheetW (now file)) (sheetH (now file)) (now rows) ⌝ }
     ensures { λ r. ⌜ Reads (now (file .entry)) (now («tree_out» .entry)) (now («numbers_out» .entry)) r
         (now («tree_out» .exit)) (now («numbers_out» .exit)) ⌝ }
 {
     let w = wide(file[3]);
     let h = wide(file[4]);
-    let f = judge::levels_judge(file, end, map, w, h);
+    let f = judge::levels_judge(file, end, rows, w, h);
     match f {
         Field::Faulty(c) => answers::File::Refused(c),
-        Field::Body(last) => fill(file, end, last, map, w, h, tree_out, numbers_out),
+        Field::Body(last) => fill(file, end, last, rows, w, h, tree_out, numbers_out),
     }
 }
 
@@ -98,10 +97,10 @@ pub fn read_file(file: &[u8], tree_out: &mut [u8], numbers_out: &mut [i64]) -> a
         × (now («numbers_out» .exit)
         ≡ (fileOutcome (now (file .entry)) (now («tree_out» .entry)) (now («numbers_out» .entry))) .numbers) ⌝ }
 {
-    let mut map = [0u8; 1024];
-    let f = judge::head_judge(file, &mut map);
+    let mut rows = [0u32; 96];
+    let f = judge::head_judge(file, &mut rows);
     match f {
         Field::Faulty(c) => answers::File::Refused(c),
-        Field::Body(end) => read_levels(file, end, &map, tree_out, numbers_out),
+        Field::Body(end) => read_levels(file, end, &rows, tree_out, numbers_out),
     }
 }

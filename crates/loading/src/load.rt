@@ -7,24 +7,24 @@ ghost use lib.ListN.{length};
 ghost use Rattle.finite.specs.Range.{count};
 ghost use Rattle.surface.specs.Table.{places, slots};
 ghost use Rattle.surface.specs.TableFile.{activeCount};
-ghost use Rattle.activity.specs.Minima.{levelsOf};
-ghost use Rattle.loading.specs.Judged.{Head, levelsHold};
-ghost use Rattle.loading.specs.Levels.{is, rowLoaded, levelLoaded};
+ghost use Rattle.rows.specs.Rows.{levelsOf, Nested};
+ghost use Rattle.activity.specs.Marks.{marked};
+ghost use Rattle.loading.specs.Judged.{Head, Holds};
+ghost use Rattle.loading.specs.Levels.{rowLoaded, levelLoaded};
 
 // Loads a row from the numbers of the body from `next` on, and returns the place of the first number left.
-fn load_row(body: &[u8], next: usize, row: &mut [i64], least: &[u8; 80], level: u8) -> usize
-    requires { ⌜ (length (now row) ≤ 80)
-        × (5 * (next + count (length (now row)) (is level (now least))) ≤ length (now body)) ⌝ }
-    ensures { λ r. ⌜ (now (row .exit)
-        ≡ rowLoaded level (now (least .entry)) (now (body .entry)) next (length (now (row .entry))))
-        × (r ≡ next + count (length (now (row .entry))) (is level (now (least .entry)))) ⌝ }
+fn load_row(body: &[u8], next: usize, row: &mut [i64], marks: activity::Marks, e: usize) -> usize
+    requires { ⌜ (length (now row) * e ≤ 88) × (1 ≤ e) × (e ≤ 8)
+        × (5 * (next + count (length (now row)) (marked e marks)) ≤ length (now body)) ⌝ }
+    ensures { λ r. ⌜ (now (row .exit) ≡ rowLoaded (marked e marks) (now (body .entry)) next (length (now (row .entry))))
+        × (r ≡ next + count (length (now (row .entry))) (marked e marks)) ⌝ }
 {
     let n = row.len();
     let mut at = next;
     let mut a = 0;
     while a < n {
         let mut c: i64 = 0;
-        if least[a] == level {
+        if activity::is_marked(marks, a, e) {
             c = super::number::number_at(body, at);
             at += 1;
         }
@@ -35,21 +35,21 @@ fn load_row(body: &[u8], next: usize, row: &mut [i64], least: &[u8; 80], level: 
 }
 
 // Loads a level's part of the coefficients from the level's body.
-pub fn load_level(body: &[u8], part: &mut [i64], map: &[u8; 1024], w: usize, h: usize, level: usize)
-    requires { ⌜ (0 < w) × (w ≤ 8) × (h ≤ 8) × (level ≤ 3) × (length (now part) ≡ places w h level)
-        × (length (now body) ≡ 5 * activeCount w h (levelsOf (now map)) level) ⌝ }
-    ensures { λ _. ⌜ now (part .exit) ≡ levelLoaded w h (levelsOf (now (map .entry))) level (now (body .entry)) ⌝ }
+pub fn load_level(body: &[u8], part: &mut [i64], rows: &[u32; 96], w: usize, h: usize, level: usize)
+    requires { ⌜ (w ≤ 8) × (h ≤ 8) × (level ≤ 3) × Nested (now rows) × (length (now part) ≡ places w h level)
+        × (length (now body) ≡ 5 * activeCount w h (levelsOf (now rows)) level) ⌝ }
+    ensures { λ _. ⌜ now (part .exit) ≡ levelLoaded w h (levelsOf (now (rows .entry))) level (now (body .entry)) ⌝ }
 {
+    let e = activity::eighths(level);
     let n = coefficients::functions(w, level);
     let m = coefficients::functions(h, level);
-    let minima = activity::row_minima(map, w, h, level, n);
     let mut next = 0;
     let mut b = 0;
     while b < m {
-        let least = activity::support_minima(&minima, h, level, b);
+        let marks = activity::active_row(rows, w, h, level, b);
         let from = b * n;
         let to = from + n;
-        next = load_row(body, next, &mut part[from..to], &least, level as u8);
+        next = load_row(body, next, &mut part[from..to], marks, e);
         b += 1;
     }
 }
@@ -58,15 +58,14 @@ pub fn load_level(body: &[u8], part: &mut [i64], map: &[u8; 1024], w: usize, h: 
 pub fn load_levels(
     file: &[u8],
     from: usize,
-    map: &[u8; 1024],
+    rows: &[u32; 96],
     w: usize,
     h: usize,
     numbers: &mut [i64],
 )
-    requires { ⌜ Head (now file) from w h (now map) × (length (now numbers) ≡ slots w h)
-        × ((found : List ℤ) × levelsHold (now file) from w h found) ⌝ }
-    ensures { λ _. ⌜ ((found : List ℤ) → levelsHold (now (file .entry)) from w h found
-        → now (numbers .exit) ≡ found) ⌝ }
+    requires { ⌜ Head (now file) from w h (now rows) × (length (now numbers) ≡ slots w h)
+        × ((found : List ℤ) × Holds (now file) from w h found) ⌝ }
+    ensures { λ _. ⌜ ((found : List ℤ) → Holds (now (file .entry)) from w h found → now (numbers .exit) ≡ found) ⌝ }
 {
     let mut at = from;
     let mut level = 0;
@@ -78,7 +77,7 @@ pub fn load_levels(
         load_level(
             &file[body..end],
             &mut numbers[first..last],
-            map,
+            rows,
             w,
             h,
             level,

@@ -32,15 +32,16 @@ pub fn within(body: &[u8], n: usize, level: usize) -> bool
     requires { ⌜ (5 * n ≤ length (now body)) × (level ≤ 3) ⌝ }
     ensures { λ r. ⌜ r ≡ allWithin level n (now (body .entry)) ⌝ }
 {
-    let limit = coefficients::limit(level);
+    // As unsigned numbers, those past the limit stand between it and the negative ones that keep it.
+    let limit = coefficients::limit(level) as usize;
+    let below = 1099511627776 - limit;
     let mut k = 0;
     while k < n {
-        let c = number_at(body, k);
-        if limit < c {
-            return false;
-        }
-        if c < 0 - limit {
-            return false;
+        let x = unsigned_at(body, k);
+        if limit < x {
+            if x < below {
+                return false;
+            }
         }
         k += 1;
     }

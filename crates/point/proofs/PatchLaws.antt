@@ -1,6 +1,6 @@
--- The patch of a level from that of the level before it; under the map as under the tree; and the reading.
+-- The patch of a level from that of the level before it; under the rows as under the tree; and the reading.
 use mathlib.Core.Path.{_≡_, refl, sym, ap, ap₂, _∙_}
-use mathlib.Core.Bool.{true}
+use mathlib.Core.Bool.{Bool, true, cond}
 use mathlib.Core.List.{List}
 use Prim.Native.Nat.{ℕ, zero, suc, _+_, _-_, _*_, _%_, _^_, _≤_, _<_}
 use native.Mathlib.Nat.{le-trans, mul-le-mul-left, pow-le-pow-right}
@@ -12,19 +12,19 @@ use lib.ListN.{length}
 use Rattle.finite.proofs.Sum.{sum2-cong}
 use Rattle.surface.specs.Sheet.{eighths, onSheet}
 use Rattle.surface.specs.Spline.{cellOf, piece}
-use Rattle.surface.specs.Support.{leastUnder}
+use Rattle.surface.specs.Support.{leastUnder, inRegion}
 use Rattle.surface.specs.Patch.{subdivided, patch, patchReading}
 use Rattle.surface.specs.Table.{levels, coefficients, limit, slots, Acceptable, tableReading}
-use Rattle.surface.proofs.Least.{and-intro}
+use Rattle.surface.proofs.Least.{and-intro, leastUnder-cong}
 use Rattle.surface.proofs.SplineCell.{cell-inside}
 use Rattle.surface.proofs.PatchReading.{subdivided-cong}
 use Rattle.surface.proofs.TableLaws.{sound, sides}
 use Rattle.surface.proofs.Demands.{patch-evaluates}
-use Rattle.activity.specs.Minima.{levelsOf}
+use Rattle.rows.specs.Rows.{levelsOf, Nested}
+use Rattle.rows.proofs.RowLaws.{rows-nested, level-rows}
 use Rattle.patch.specs.Patches.{entry, Bounded, Evaluated}
-use Rattle.table.proofs.CauseLaws.{map-least}
-use Rattle.point.specs.Painted.{Painted}
-use Rattle.point.specs.Patches.{chosen, PatchAt}
+use Rattle.point.specs.OfTable.{OfTable}
+use Rattle.point.specs.Patches.{PatchAt}
 
 -- ---- one level on
 
@@ -32,27 +32,27 @@ module _ (W H : ℕ) (lev : ℕ → ℕ → ℕ) (coef : ℕ → ℕ → ℕ →
   -- an entry by the cell (a, b) of level M = suc L
   abbrev entryAt : ℕ → ℕ → ℤ
   entryAt a b =
-      chosen M (leastUnder W H lev M (a + k) (b + l)) (coef M (a + k) (b + l))
+      cond (inRegion W H lev M (a + k) (b + l)) (coef M (a + k) (b + l))
       (subdivided (a % 2) (b % 2) (patch W H lev coef u v L) k l)
 
   entry-is : entryAt (cellOf W M u) (cellOf H M v) ≡ patch W H lev coef u v M k l
   unfolding patch
   entry-is = rw next
 
-  -- from what was found of it: its least level, its own coefficient, and what the coarser patch p subdivides to
-  pub next-entry : (p : ℕ → ℕ → ℤ) (a b least : ℕ) {own coarse : ℤ} → k < 4 → l < 4
+  -- from what was found of it: whether it lies in the region, its own coefficient, and what the coarser patch p subdivides to
+  pub next-entry : (p : ℕ → ℕ → ℤ) (a b : ℕ) (inside : Bool) {own coarse : ℤ} → k < 4 → l < 4
       → a ≡ cellOf W M u → b ≡ cellOf H M v
       → ((i j : ℕ) → i < 4 → j < 4 → p i j ≡ patch W H lev coef u v L i j)
-      → least ≡ leastUnder W H lev M (a + k) (b + l) → own ≡ coef M (a + k) (b + l)
-      → coarse ≡ subdivided (a % 2) (b % 2) p k l → chosen M least own coarse ≡ patch W H lev coef u v M k l
-  next-entry p a b least {own} {coarse} hk hl ea eb ep em eo es =
-      ap (λ m. chosen M m own coarse) em
-      ∙ ap₂ (λ x y. chosen M (leastUnder W H lev M (a + k) (b + l)) x y) eo
+      → inside ≡ inRegion W H lev M (a + k) (b + l) → own ≡ coef M (a + k) (b + l)
+      → coarse ≡ subdivided (a % 2) (b % 2) p k l → cond inside own coarse ≡ patch W H lev coef u v M k l
+  next-entry p a b inside {own} {coarse} hk hl ea eb ep em eo es =
+      ap (λ t. cond t own coarse) em
+      ∙ ap₂ (cond (inRegion W H lev M (a + k) (b + l))) eo
       (es ∙ subdivided-cong (a % 2) (b % 2) p (patch W H lev coef u v L) (omega arith) (omega arith) ep k l hk hl)
       ∙ ap₂ entryAt ea eb
       ∙ entry-is
 
--- ---- the map in place of the tree
+-- ---- the rows in place of the tree
 
 -- levels with the same least levels under the supports have the same patches
 patch-cong : (W H : ℕ) (f g : ℕ → ℕ → ℕ) (coef : ℕ → ℕ → ℕ → ℤ) (u v : ℕ)
@@ -63,7 +63,7 @@ patch-cong W H f g coef u v e zero k l hk hl = refl
 patch-cong W H f g coef u v e (suc L) k l hk hl =
     let a = cellOf W (suc L) u in
     let b = cellOf H (suc L) v in
-    ap₂ (λ m z. chosen (suc L) m (coef (suc L) (a + k) (b + l)) z) (e (suc L) (a + k) (b + l))
+    ap₂ (λ m z. cond (leb (suc L) m) (coef (suc L) (a + k) (b + l)) z) (e (suc L) (a + k) (b + l))
     (subdivided-cong (a % 2) (b % 2) (patch W H f coef u v L) (patch W H g coef u v L) (omega arith) (omega arith)
     (patch-cong W H f g coef u v e L) k l hk hl)
 
@@ -74,11 +74,11 @@ pub steps-left : (n u a : ℕ) → 0 < n → u ≤ 128 * n → a ≡ cellOf n 3 
 unfolding eighths
 steps-left n u a p h e = let i = cell-inside n 3 u p h (lit≤ tt) in (omega arith, omega arith)
 
--- a point of the sheet, and a tree that the map was painted from and with which the table is acceptable
+-- a point of the sheet, and a tree that the rows are of and with which the table is acceptable
 abbrev pub Readable : ℕ → ℕ → List ℕ → List ℤ → ℕ → ℕ → Type 0
-Readable W H map cs u v = (u ≤ 128 * W) × (v ≤ 128 * H) × Painted W H map cs
+Readable W H rows cs u v = (u ≤ 128 * W) × (v ≤ 128 * H) × OfTable W H rows cs
 
-module _ (W H : ℕ) (map : List ℕ) (cs : List ℤ) (u v : ℕ) (given : Readable W H map cs u v) where
+module _ (W H : ℕ) (rows : List ℕ) (cs : List ℤ) (u v : ℕ) (given : Readable W H rows cs u v) where
   abbrev t : List ℕ
   t = given .2 .0
 
@@ -86,11 +86,12 @@ module _ (W H : ℕ) (map : List ℕ) (cs : List ℤ) (u v : ℕ) (given : Reada
   acc = given .2 .2
 
   by-tree : (L k l : ℕ) → k < 4 → l < 4
-      → patch W H (levelsOf map) (coefficients W H cs) u v L k l ≡ patch W H (levels t) (coefficients W H cs) u v L k l
+      → patch W H (levelsOf rows) (coefficients W H cs) u v L k l ≡ patch W H (levels t) (coefficients W H cs) u v L k l
   by-tree =
       let n = sides (sound W H t cs acc) in
-      patch-cong W H (levelsOf map) (levels t) (coefficients W H cs) u v
-      (λ L a b. map-least W H t map L a b (n .1) (n .3) (given .2 .1))
+      patch-cong W H (levelsOf rows) (levels t) (coefficients W H cs) u v
+      (leastUnder-cong W H (levelsOf rows) (levels t) λ q r hq hr.
+      ap (λ x. levelsOf x q r) (given .2 .1) ∙ level-rows t q r (omega arith) (omega arith))
 
   on-sheet : onSheet W H u v ≡ true
   on-sheet = and-intro (leb u (128 * W)) (leb v (128 * H)) (le-leb u (128 * W) (given .0))
@@ -104,24 +105,25 @@ module _ (W H : ℕ) (map : List ℕ) (cs : List ℤ) (u v : ℕ) (given : Reada
       (n .0, n .1, n .2, n .3, given .0, given .1, s .size)
 
   -- each entry keeps its level's limit
-  pub patch-bounded : (L m : ℕ) (p : List (List ℤ)) → L < 4 → limit L ≤ m → PatchAt W H map cs u v L p → Bounded m p
+  pub patch-bounded : (L m : ℕ) (p : List (List ℤ)) → L < 4 → limit L ≤ m → PatchAt W H rows cs u v L p → Bounded m p
   patch-bounded L m p hL hm at k l hk hl =
       rw (at k l hk hl ∙ by-tree L k l hk hl)
       (le-trans (patch-evaluates W H t cs acc u v on-sheet .1 L k l hL hk hl) hm)
 
   -- what `finer` asks
-  pub finer-ready : (M : ℕ) (p : List (List ℤ)) → 0 < M → M ≤ 3 → PatchAt W H map cs u v (M - 1) p
+  pub finer-ready : (M : ℕ) (p : List (List ℤ)) → 0 < M → M ≤ 3 → PatchAt W H rows cs u v (M - 1) p
       → (0 < W) × (W ≤ 8) × (0 < H) × (H ≤ 8) × (0 < M) × (M ≤ 3) × (u ≤ 128 * W) × (v ≤ 128 * H)
-      × (length cs ≡ slots W H) × Bounded 131072000 p × PatchAt W H map cs u v (M - 1) p
+      × (length cs ≡ slots W H) × Bounded 131072000 p × PatchAt W H rows cs u v (M - 1) p
+      × Nested rows
   finer-ready M p hM h3 at =
       let s = point-ready in
       let power : 64 ^ (M - 1) ≤ 4096 = pow-le-pow-right {n = 64} (omega arith) {i = M - 1} {j = 2} (omega arith) in
       let bounded = patch-bounded (M - 1) 131072000 p (omega arith) (mul-le-mul-left 32000 power) at in
-      (s .0, s .1, s .2, s .3, hM, h3, s .4, s .5, s .6, bounded, at)
+      (s .0, s .1, s .2, s .3, hM, h3, s .4, s .5, s .6, bounded, at, rw (given .2 .1) (rows-nested (levels t)))
 
   -- the value of the level 3 patch is the reading
   pub reading-of : (a b : ℕ) (p : List (List ℤ)) (x : ℤ) → a ≡ cellOf W 3 u → b ≡ cellOf H 3 v
-      → PatchAt W H map cs u v 3 p → Evaluated p (u - 16 * a) (v - 16 * b) x
+      → PatchAt W H rows cs u v 3 p → Evaluated p (u - 16 * a) (v - 16 * b) x
       → x ≡ tableReading W H (given .2 .0) cs u v
   unfolding patchReading eighths
   reading-of a b p x ea eb at e =

@@ -1,5 +1,6 @@
 -- The cell that holds a point, and the entries of a patch.
 use mathlib.Core.Path.{_≡_, ap, ap₂, _∙_}
+use mathlib.Core.Bool.{Bool, cond}
 use mathlib.Core.List.{List, [], _∷_}
 use Prim.Native.Nat.{ℕ, _+_, _-_, _*_, _/_, _≤_, _<_, min}
 use native.Mathlib.Nat.{add-mul, mul-comm, mul-le-mul-right}
@@ -14,9 +15,7 @@ use Rattle.surface.specs.Sheet.{cells, functions, steps}
 use Rattle.surface.specs.Spline.{cellOf}
 use Rattle.surface.specs.Table.{places, start, coefficients}
 use Rattle.surface.proofs.SplineCell.{cell-inside}
-use Rattle.coefficients.proofs.Parts.{part}
-use Rattle.table.proofs.FaultLaws.{level-at}
-use Rattle.point.specs.Patches.{chosen}
+use Rattle.coefficients.proofs.Parts.{part, level-at}
 
 -- the lesser of the quotient and the last cell, s steps to a cell and f functions along the side
 pub cell-found : (n L u s f r : ℕ) → 0 < n → u ≤ 128 * n → L ≤ 3 → s ≡ steps L → f ≡ functions n L
@@ -58,7 +57,7 @@ level-own W H L first size n a b cs begins sized columns ha hb k l hk hl =
 abbrev read : ℤ → ℤ
 read z = toZ w64 (ofZ w64 z)
 
-pub chosen-read : (level least : ℕ) (own coarse : ℤ) {r : ℤ} → SFits w64 r → SFits w64 own → SFits w64 coarse
-    → r ≡ chosen level least (read own) (read coarse) → read r ≡ chosen level least own coarse
-chosen-read level least own coarse {r} f g h e =
-    toZ-ofZ w64 r f ∙ e ∙ ap₂ (λ x y. chosen level least x y) (toZ-ofZ w64 own g) (toZ-ofZ w64 coarse h)
+pub chosen-read : (inside : Bool) (own coarse : ℤ) {r : ℤ} → SFits w64 r → SFits w64 own → SFits w64 coarse
+    → r ≡ cond inside (read own) (read coarse) → read r ≡ cond inside own coarse
+chosen-read inside own coarse {r} f g h e =
+    toZ-ofZ w64 r f ∙ e ∙ ap₂ (cond inside) (toZ-ofZ w64 own g) (toZ-ofZ w64 coarse h)

@@ -1,2 +1,2 @@
-pub mod Painted
+pub mod OfTable
 pub mod Patches

@@ -1,14 +1,13 @@
 -- What a patch of a table is: its own coefficients, and the choice between them and the subdivided ones.
 use mathlib.Core.Path.{_≡_}
-use mathlib.Core.Bool.{cond}
+use mathlib.Core.Bool.{Bool, false, cond}
 use mathlib.Core.List.{List, []}
 use Prim.Native.Nat.{ℕ, _+_, _*_, _<_}
-use lib.Dec.{leb}
 use lib.IntN.{ℤ, pos}
 use lib.ListN.{getD}
 use Rattle.surface.specs.Patch.{patch}
 use Rattle.surface.specs.Table.{coefficients}
-use Rattle.activity.specs.Minima.{levelsOf}
+use Rattle.rows.specs.Rows.{levelsOf}
 use Rattle.patch.specs.Patches.{entry}
 
 -- four coefficients along v, from a place on in rows of n
@@ -23,21 +22,18 @@ InPart part n a b x = (k l : ℕ) → k < 4 → l < 4 → entry x k l ≡ getD p
 abbrev pub OwnOf : ℕ → ℕ → ℕ → List ℤ → ℕ → ℕ → List (List ℤ) → Type 0
 OwnOf W H L cs a b x = (k l : ℕ) → k < 4 → l < 4 → entry x k l ≡ coefficients W H cs L (a + k) (b + l)
 
--- an entry's own coefficient where the least level under it is at least its own, else the subdivided value
-abbrev pub chosen : ℕ → ℕ → ℤ → ℤ → ℤ
-chosen level least own coarse = cond (leb level least) own coarse
-
-abbrev pub ChosenRow : ℕ → List ℕ → List ℤ → List ℤ → List ℤ → Type 0
-ChosenRow level least own coarse x =
+-- an entry in the region of its level is its own coefficient, any other the subdivided value
+abbrev pub ChosenRow : List Bool → List ℤ → List ℤ → List ℤ → Type 0
+ChosenRow inside own coarse x =
     (l : ℕ) → l < 4
-    → getD x l (pos 0) ≡ chosen level (getD least l 0) (getD own l (pos 0)) (getD coarse l (pos 0))
+    → getD x l (pos 0) ≡ cond (getD inside l false) (getD own l (pos 0)) (getD coarse l (pos 0))
 
-abbrev pub Chosen : ℕ → List (List ℕ) → List (List ℤ) → List (List ℤ) → List (List ℤ) → Type 0
-Chosen level least own coarse x =
+abbrev pub Chosen : List (List Bool) → List (List ℤ) → List (List ℤ) → List (List ℤ) → Type 0
+Chosen inside own coarse x =
     (k l : ℕ) → k < 4 → l < 4
-    → entry x k l ≡ chosen level (getD (getD least k []) l 0) (entry own k l) (entry coarse k l)
+    → entry x k l ≡ cond (getD (getD inside k []) l false) (entry own k l) (entry coarse k l)
 
 -- the patch of level L at (u, v), as document 01's definition has it
 abbrev pub PatchAt : ℕ → ℕ → List ℕ → List ℤ → ℕ → ℕ → ℕ → List (List ℤ) → Type 0
-PatchAt W H map cs u v L p =
-    (k l : ℕ) → k < 4 → l < 4 → entry p k l ≡ patch W H (levelsOf map) (coefficients W H cs) u v L k l
+PatchAt W H rows cs u v L p =
+    (k l : ℕ) → k < 4 → l < 4 → entry p k l ≡ patch W H (levelsOf rows) (coefficients W H cs) u v L k l

@@ -1,5 +1,5 @@
-// The exact reading of an acceptable table at a point, from its map of levels and its coefficients: a patch of
-// sixteen, taken at level 0 and subdivided three times.
+// The exact reading of an acceptable table at a point, from its regions as rows of bits and its coefficients: a
+// patch of sixteen, taken at level 0 and subdivided three times.
 pub mod cell;
 pub mod own;
 pub mod step;
@@ -8,19 +8,19 @@ ghost use mathlib.Core.Path.{_≡_};
 ghost use mathlib.Core.List.{List};
 ghost use Prim.Native.Nat.{ℕ, _*_, _≤_};
 ghost use Rattle.surface.specs.Table.{Acceptable, tableReading};
-ghost use Rattle.quadtree.specs.Paint.{levelMap};
-ghost use Rattle.point.specs.Painted.{Painted};
+ghost use Rattle.rows.specs.Rows.{levelRows};
+ghost use Rattle.point.specs.OfTable.{OfTable};
 
 // The numerator over D at (u, v).
-pub fn reading_at(cs: &[i64], map: &[u8; 1024], w: usize, h: usize, u: usize, v: usize) -> i64
-    requires { ⌜ (u ≤ 128 * w) × (v ≤ 128 * h) × Painted w h (now map) (now cs) ⌝ }
-    ensures { λ r. ⌜ ((t : List ℕ) → now (map .entry) ≡ levelMap t → Acceptable w h t (now (cs .entry))
+pub fn reading_at(cs: &[i64], rows: &[u32; 96], w: usize, h: usize, u: usize, v: usize) -> i64
+    requires { ⌜ (u ≤ 128 * w) × (v ≤ 128 * h) × OfTable w h (now rows) (now cs) ⌝ }
+    ensures { λ r. ⌜ ((t : List ℕ) → now (rows .entry) ≡ levelRows t → Acceptable w h t (now (cs .entry))
         → r ≡ tableReading w h t (now (cs .entry)) u v) ⌝ }
 {
     let p0 = step::coarsest(cs, w, h, u, v);
-    let p1 = step::finer(p0, cs, map, w, h, 1, u, v);
-    let p2 = step::finer(p1, cs, map, w, h, 2, u, v);
-    let p3 = step::finer(p2, cs, map, w, h, 3, u, v);
+    let p1 = step::finer(p0, cs, rows, w, h, 1, u, v);
+    let p2 = step::finer(p1, cs, rows, w, h, 2, u, v);
+    let p3 = step::finer(p2, cs, rows, w, h, 3, u, v);
     let a = cell::cell_of(w, 3, u);
     let b = cell::cell_of(h, 3, v);
     patch::evaluate(p3, u - 16 * a, v - 16 * b)

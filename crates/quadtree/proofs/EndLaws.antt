@@ -1,21 +1,20 @@
 -- Where a subtree of the form ends: what its first byte says, and the tree of the root's square.
-use mathlib.Core.Bool.{Bool, true, false, cond}
+use mathlib.Core.Bool.{Bool, true, false, cond, false≢true}
 use mathlib.Core.List.{List, [], _∷_}
 use mathlib.Core.Path.{_≡_, refl, sym, ap, _∙_}
 use Prim.Native.Nat.{ℕ, _+_, _-_, _^_, _≤_, _<_}
 use native.Mathlib.Nat.{one-le-pow}
+use native.Mathlib.Decide.{decLt}
 use native.Mathlib.Omega.{arith}
 use lib.Dec.{eqb}
 use lib.ListN.{length, drop, getD, length-drop}
 use borrow.Author.Tests.{eq-eqb, ne-eqb}
-use Rattle.surface.specs.Sheet.{quarters}
 use Rattle.surface.specs.Quadtree.{Quadtree, leaf, bytes, Parsed, none, found, parse, wellFormed}
 use Rattle.surface.specs.Table.{treeOf, formed, regionsOf}
-use Rattle.surface.proofs.TreeForm.{leaf-form, form-leaf}
 use Rattle.quadtree.specs.Subtree.{Subtree}
 use Rattle.quadtree.specs.End.{endOf, endOfParsed}
-use Rattle.quadtree.specs.declared.check.End.{End}
-use Rattle.quadtree.specs.declared.check.End.the-variants.{At, Bad}
+use Rattle.quadtree.specs.declared.walk.End.{End}
+use Rattle.quadtree.specs.declared.walk.End.the-variants.{At, Bad}
 use Rattle.quadtree.proofs.SubtreeLaws.{parse-stands, subtree-inside, subtree-byte, leaf-subtree, subtree-leaf}
 use Rattle.quadtree.proofs.SubtreeLaws.{Split, subtree-split, tree-subtree}
 
@@ -70,24 +69,19 @@ module _ (W H x y side : ℕ) (t : List ℕ) (at : ℕ) where
   past-end past k power = sym (no-end W H k x y t at λ q s f. omega (arith, subtree-inside k t at q s))
 
   module _ (inside : at < length t) where
-    -- Bytes 0 to 3, with level 0 where the square is not wholly on the sheet.
-    pub leaf-end : getD t at 0 ≤ 3 → (quarters W < x + side → getD t at 0 ≡ 0)
-        → (quarters H < y + side → getD t at 0 ≡ 0) → Ends W H x y side t at (At (at + 1))
-    unfolding bytes
-    leaf-end low pastU pastV k power =
-        sym (end-of-tree W H k x y t at (leaf (getD t at 0)) (leaf-subtree k t at inside low)
-        (form-leaf W H k x y (getD t at 0)
-        (record { level = low; pastU = λ out. pastU (omega arith); pastV = λ out. pastV (omega arith) })))
+    -- Bytes 0 to 3, by the form of the leaf.
+    module _ (low : getD t at 0 ≤ 3) where
+      pub leaf-end : ((k : ℕ) → side ≡ 2 ^ k → true ≡ wellFormed W H k x y (leaf (getD t at 0)))
+          → Ends W H x y side t at (At (at + 1))
+      unfolding bytes
+      leaf-end form k power =
+          sym (end-of-tree W H k x y t at (leaf (getD t at 0)) (leaf-subtree k t at inside low) (sym (form k power)))
 
-    pub leaf-beyond : getD t at 0 ≤ 3 → (getD t at 0 ≡ 0 → ⊥) → (x + side ≤ quarters W → quarters H < y + side)
-        → Ends W H x y side t at Bad
-    leaf-beyond low some out k power = sym (no-end W H k x y t at none-there)
-      where
-        none-there : (q : Quadtree) → Subtree k t at q → wellFormed W H k x y q ≡ true → ⊥
-        none-there q s f =
-            let form = leaf-form W H k x y (getD t at 0) (rw (subtree-leaf k t at q s low) at f) in
-            let in-u : ¬ (quarters W < x + side) = λ u. some (form .pastU (rw power at u)) in
-            some (form .pastV (rw power at (out (omega arith))))
+      pub leaf-bad : ((k : ℕ) → side ≡ 2 ^ k → false ≡ wellFormed W H k x y (leaf (getD t at 0)))
+          → Ends W H x y side t at Bad
+      leaf-bad form k power =
+          sym (no-end W H k x y t at λ q s f.
+          false≢true (form k power ∙ ap (wellFormed W H k x y) (sym (subtree-leaf k t at q s low)) ∙ f))
 
     -- Another byte, or a single quarter.
     pub wrong-byte : 3 < getD t at 0 → (getD t at 0 ≡ 4 → 1 < side → ⊥) → Ends W H x y side t at Bad
@@ -98,6 +92,19 @@ module _ (W H x y side : ℕ) (t : List ℕ) (at : ℕ) where
         none-there q s p =
             bad (subtree-byte k t at q s ∙ ap (λ r. getD (bytes r) 0 0) (p .whole))
             (omega (arith, power ∙ ap (λ n. 2 ^ n) (p .height), one-le-pow (p .j) 2 (omega arith)))
+
+-- A single quarter can only be a leaf of the form.
+pub single-end : (W H x y : ℕ) (t : List ℕ) (at p : ℕ) → p ≡ at + 1 → at < length t → getD t at 0 ≤ 3
+    → ((k : ℕ) → 1 ≡ 2 ^ k → true ≡ wellFormed W H k x y (leaf (getD t at 0))) → Ends W H x y 1 t at (At p)
+single-end W H x y t at p e inside low form k power = ap At e ∙ leaf-end W H x y 1 t at inside low form k power
+
+pub single-bad : (W H x y : ℕ) (t : List ℕ) (at : ℕ) → at < length t
+    → ((k : ℕ) → 1 ≡ 2 ^ k → false ≡ wellFormed W H k x y (leaf (getD t at 0))) → Ends W H x y 1 t at Bad
+single-bad W H x y t at inside form = go (decLt 3 (getD t at 0))
+  where
+    go : Dec (3 < getD t at 0) → Ends W H x y 1 t at Bad
+    go (yes high) = wrong-byte W H x y 1 t at inside high (λ four more. omega arith)
+    go (no low) = leaf-bad W H x y 1 t at inside (omega arith) form
 
 -- The tree of the root's square is of the form if it is, and ends with the slice.
 pub whole-bad : (W H : ℕ) (t : List ℕ) → endOf W H 5 0 0 t 0 ≡ Bad → false ≡ formed W H (treeOf t)

@@ -1,7 +1,6 @@
 pub mod SubtreeLaws
 pub mod EndLaws
 pub mod SplitEnd
+pub mod WalkLaws
 pub mod VisitLaws
 pub mod VisitWalk
-pub mod PaintLaws
-pub mod PaintTree

@@ -9,8 +9,8 @@ use borrow.Author.Tests.{eq-eqb}
 use Rattle.surface.specs.Quadtree.{Quadtree, leaf, split, bytes, wellFormed, equalLeaves, quadrant}
 use Rattle.surface.proofs.TreeForm.{half, split-form, form-split, equal-leaves}
 use Rattle.quadtree.specs.Subtree.{Subtree}
-use Rattle.quadtree.specs.End.{Square, endOf}
-use Rattle.quadtree.specs.declared.check.End.the-variants.{At, Bad}
+use Rattle.quadtree.specs.End.{Square, equalBytes, endOf}
+use Rattle.quadtree.specs.declared.walk.End.the-variants.{At, Bad}
 use Rattle.quadtree.proofs.SubtreeLaws.{bytes-some, subtree-inside, subtree-unique, subtree-byte}
 use Rattle.quadtree.proofs.SubtreeLaws.{Split, subtree-split, split-subtree}
 use Rattle.quadtree.proofs.EndLaws.{end-of-tree, no-end, ended, Ends}
@@ -108,6 +108,23 @@ module _ (W H x y side : ℕ) (t : List ℕ) (at : ℕ) where
       let b = bad j half in
       cc
 
+  -- A split has four bytes after its first at least.
+  pub short-bad : getD t at 0 ≡ 4 → length t ≤ at + 4 → Ends W H x y side t at Bad
+  short-bad four short k power = sym (no-end W H k x y t at none-there)
+    where
+      none-there : (q : Quadtree) → Subtree k t at q → wellFormed W H k x y q ≡ true → ⊥
+      none-there q s f =
+          let p = subtree-split k t at q s (omega arith) in
+          omega (
+            arith,
+            subtree-inside k t at q s,
+            p .end,
+            bytes-some (p .sw),
+            bytes-some (p .se),
+            bytes-some (p .nw),
+            bytes-some (p .ne),
+          )
+
 -- ---- four equal leaves
 
 -- A tree of one byte is a leaf.
@@ -137,17 +154,10 @@ record Four (j : ℕ) (t : List ℕ) (at p1 p2 p3 p4 : ℕ) (sw se nw ne : Quadt
   end3 : p3 ≡ p2 + length (bytes nw)
   end4 : p4 ≡ p3 + length (bytes ne)
 
--- Four children of a byte each, and these bytes are equal.
-pub record Same (t : List ℕ) (at p4 : ℕ) : Type 0 where
-  pub short : p4 ≡ at + 5
-  pub second : getD t (at + 1) 0 ≡ getD t (at + 2) 0
-  pub third : getD t (at + 1) 0 ≡ getD t (at + 3) 0
-  pub fourth : getD t (at + 1) 0 ≡ getD t (at + 4) 0
-
 module _ (j : ℕ) (t : List ℕ) (at p1 p2 p3 p4 : ℕ) (sw se nw ne : Quadtree)
     (f : Four j t at p1 p2 p3 p4 sw se nw ne) where
-  same-equal : Same t at p4 → equalLeaves sw se nw ne ≡ true
-  same-equal s =
+  same-equal : p4 ≡ at + 5 → equalBytes t at ≡ true → equalLeaves sw se nw ne ≡ true
+  same-equal short same =
       let l1 = bytes-some sw in
       let l2 = bytes-some se in
       let l3 = bytes-some nw in
@@ -164,9 +174,9 @@ module _ (j : ℕ) (t : List ℕ) (at p1 p2 p3 p4 : ℕ) (sw se nw ne : Quadtree
         e2,
         e3,
       )
-      (equal-bytes _ _ _ _ (s .second) (s .third) (s .fourth))
+      same
 
-  equal-same : equalLeaves sw se nw ne ≡ true → Same t at p4
+  equal-same : equalLeaves sw se nw ne ≡ true → (p4 ≡ at + 5) × (equalBytes t at ≡ true)
   equal-same e =
       let q = equal-leaves sw se nw ne e in
       let l1 = leaf-facts j t (at + 1) sw (q .level) (f .first) (q .leaves true true) in
@@ -175,13 +185,11 @@ module _ (j : ℕ) (t : List ℕ) (at p1 p2 p3 p4 : ℕ) (sw se nw ne : Quadtree
       let l4 = leaf-facts j t p3 ne (q .level) (f .fourth) (q .leaves false false) in
       let e1 : p1 ≡ at + 2 = omega arith in
       let e2 : p2 ≡ at + 3 = omega arith in
-      let e3 : p3 ≡ at + 4 = omega arith in
-      record {
-        short = omega arith;
-        second = l1 .1 ∙ sym (rw e1 at (l2 .1));
-        third = l1 .1 ∙ sym (rw e2 at (l3 .1));
-        fourth = l1 .1 ∙ sym (rw e3 at (l4 .1));
-      }
+      let e3 : p3 ≡ at + 4 = omega arith in (
+        omega arith,
+        equal-bytes _ _ _ _ (l1 .1 ∙ sym (rw e1 at (l2 .1))) (l1 .1 ∙ sym (rw e2 at (l3 .1)))
+            (l1 .1 ∙ sym (rw e3 at (l4 .1))),
+      )
 
   whole-stands : at < length t → getD t at 0 ≡ 4 → Subtree (suc j) t at (split sw se nw ne)
   whole-stands inside four =
@@ -202,6 +210,18 @@ record Trees (W H j x y : ℕ) (t : List ℕ) (at p1 p2 p3 p4 : ℕ) : Type 0 wh
   ne : Quadtree
   four : Four j t at p1 p2 p3 p4 sw se nw ne
   child : (a b : Bool) → wellFormed W H j (half a (2 ^ j) x) (half b (2 ^ j) y) (quadrant a b sw se nw ne) ≡ true
+
+-- A split with its children, by the positions where those before them ended.
+pub record Children (j : ℕ) (t : List ℕ) (at p1 p2 p3 : ℕ) (q : Quadtree) : Type 0 where
+  pub sw : Quadtree
+  pub se : Quadtree
+  pub nw : Quadtree
+  pub ne : Quadtree
+  pub first : Subtree j t (at + 1) sw
+  pub second : Subtree j t p1 se
+  pub third : Subtree j t p2 nw
+  pub fourth : Subtree j t p3 ne
+  pub whole : q ≡ split sw se nw ne
 
 each-child : (W H j x y : ℕ) (sw se nw ne : Quadtree) → wellFormed W H j x y sw ≡ true
     → wellFormed W H j (x + 2 ^ j) y se ≡ true → wellFormed W H j x (y + 2 ^ j) nw ≡ true
@@ -249,11 +269,29 @@ module _ (W H x y side : ℕ) (t : List ℕ) (at p1 p2 p3 p4 : ℕ) (f : Fourth 
       let g = trees j (omega arith) in
       omega (arith, subtree-inside j t p3 (g .ne) (g .four .fourth), g .four .end4)
 
-  -- Four equal leaves are not of the form.
-  pub same-bad : Same t at p4 → Ends W H x y side t at Bad
+  -- A tree that stands there is the split of the children that ended.
+  pub children : (j : ℕ) (q : Quadtree) → side ≡ 2 ^ suc j → Subtree (suc j) t at q → Children j t at p1 p2 p3 q
   unfolding known
-  same-bad s zero power = absurd (omega (arith, known .more))
-  same-bad s (suc j) power = sym (no-end W H (suc j) x y t at none-there)
+  children j q power stands =
+      let g = trees j (omega arith) in
+      let whole = whole-stands j t at p1 p2 p3 p4 _ _ _ _ (g .four) (known .inside) (known .four) in
+      record {
+        sw = g .sw;
+        se = g .se;
+        nw = g .nw;
+        ne = g .ne;
+        first = g .four .first;
+        second = g .four .second;
+        third = g .four .third;
+        fourth = g .four .fourth;
+        whole = subtree-unique (suc j) t at q (split (g .sw) (g .se) (g .nw) (g .ne)) stands whole;
+      }
+
+  -- Four equal leaves are not of the form.
+  pub same-bad : p4 ≡ at + 5 → equalBytes t at ≡ true → Ends W H x y side t at Bad
+  unfolding known
+  same-bad short same zero power = absurd (omega (arith, known .more))
+  same-bad short same (suc j) power = sym (no-end W H (suc j) x y t at none-there)
     where
       g : Trees W H j x y t at p1 p2 p3 p4
       g = trees j (omega arith)
@@ -263,10 +301,10 @@ module _ (W H x y side : ℕ) (t : List ℕ) (at p1 p2 p3 p4 : ℕ) (f : Fourth 
           let whole = whole-stands j t at p1 p2 p3 p4 _ _ _ _ (g .four) (known .inside) (known .four) in
           let e = subtree-unique (suc j) t at q (split (g .sw) (g .se) (g .nw) (g .ne)) stands whole in
           let two = split-form W H j x y (g .sw) (g .se) (g .nw) (g .ne) (rw e at form) .unequal in
-          false≢true (sym two ∙ same-equal j t at p1 p2 p3 p4 _ _ _ _ (g .four) s)
+          false≢true (sym two ∙ same-equal j t at p1 p2 p3 p4 _ _ _ _ (g .four) short same)
 
   -- Any other four children are.
-  pub split-end : (Same t at p4 → ⊥) → Ends W H x y side t at (At p4)
+  pub split-end : (p4 ≡ at + 5 → equalBytes t at ≡ false) → Ends W H x y side t at (At p4)
   unfolding known
   split-end other zero power = absurd (omega (arith, known .more))
   split-end other (suc j) power = go (equalLeaves (g .sw) (g .se) (g .nw) (g .ne)) refl
@@ -275,7 +313,9 @@ module _ (W H x y side : ℕ) (t : List ℕ) (at p1 p2 p3 p4 : ℕ) (f : Fourth 
       g = trees j (omega arith)
 
       go : (b : Bool) → equalLeaves (g .sw) (g .se) (g .nw) (g .ne) ≡ b → At p4 ≡ endOf W H (suc j) x y t at
-      go true e = absurd (other (equal-same j t at p1 p2 p3 p4 _ _ _ _ (g .four) e))
+      go true e =
+          let same = equal-same j t at p1 p2 p3 p4 _ _ _ _ (g .four) e in
+          absurd (false≢true (sym (other (same .0)) ∙ same .1))
       go false e =
           ap At (split-ends j t at p1 p2 p3 p4 _ _ _ _ (g .four))
           ∙ sym (end-of-tree W H (suc j) x y t at (split (g .sw) (g .se) (g .nw) (g .ne))
@@ -284,20 +324,23 @@ module _ (W H x y side : ℕ) (t : List ℕ) (at p1 p2 p3 p4 : ℕ) (f : Fourth 
 
 -- ---- the squares of the children
 
--- What a call at a child's square asks: a lesser side, and a square.
-pub child-asks : (W H x y side m : ℕ) → side ≡ m → Square x y side × (W ≤ 8) × (H ≤ 8) → 1 < side → (a b : Bool)
-    → (side / 2 < m) × (Square (half a (side / 2) x) (half b (side / 2) y) (side / 2) × (W ≤ 8) × (H ≤ 8))
-child-asks W H x y side m e pre more a b =
-    (omega arith, (go (pre .0 .height) (pre .0 .power), pre .1, pre .2))
+-- What a call at a child's square asks: a lesser side, and a square of more than a quarter.
+pub child-asks : (x y side m : ℕ) → side ≡ m → Square x y side → 1 < side → (side ≡ 2 → ⊥) → (a b : Bool)
+    → (side / 2 < m) × Square (half a (side / 2) x) (half b (side / 2) y) (side / 2) × (1 < side / 2)
+child-asks x y side m e square some more a b = go (square .height) (square .power)
   where
     corner : (z : ℕ) → z + side ≤ 32 → (a : Bool) → half a (side / 2) z + side / 2 ≤ 32
     corner z h true = omega arith
     corner z h false = omega arith
 
-    go : (k : ℕ) → side ≡ 2 ^ k → Square (half a (side / 2) x) (half b (side / 2) y) (side / 2)
+    go : (k : ℕ) → side ≡ 2 ^ k
+        → (side / 2 < m) × Square (half a (side / 2) x) (half b (side / 2) y) (side / 2) × (1 < side / 2)
     go zero power = absurd (omega arith)
-    go (suc j) power =
-        record { height = j; power = omega arith; inU = corner x (pre .0 .inU) a; inV = corner y (pre .0 .inV) b }
+    go (suc j) power = (
+      omega arith,
+      record { height = j; power = omega arith; inU = corner x (square .inU) a; inV = corner y (square .inV) b },
+      omega arith,
+    )
 
 -- The five bytes of a split into leaves, by their positions.
 pub fits-near : (n at i : ℕ) → n * 1 < 2 ^ 63 → at < n → i ≤ 5 → at + i < 2 ^ 64

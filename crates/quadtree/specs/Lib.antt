@@ -1,4 +1,4 @@
 pub mod Subtree
 pub mod End
+pub mod Judged
 pub mod Visit
-pub mod Paint

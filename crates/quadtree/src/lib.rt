@@ -1,4 +1,3 @@
-// Region trees as document 01 writes them: their form, the least level under a box, and the map of levels.
-pub mod check;
-pub mod paint;
+// Region trees as document 01 writes them: their form with their regions, and the least level under a box.
 pub mod visit;
+pub mod walk;

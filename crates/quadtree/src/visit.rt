@@ -38,7 +38,7 @@ fn overlaps(lo: usize, hi: usize, x: usize, n: usize) -> bool
 }
 
 // The square of this side at (x, y) shares area with the box of the corners u0, v0, u1, v1.
-fn meets(x: usize, y: usize, side: usize, corners: &[usize; 4]) -> bool
+pub fn meets(x: usize, y: usize, side: usize, corners: &[usize; 4]) -> bool
     requires { ⌜ (x + side ≤ 32) × (y + side ≤ 32) ⌝ }
     ensures { λ r. ⌜ r ≡ sharesArea x y side (boxAt (now (corners .entry))) ⌝ }
 {

@@ -14,12 +14,12 @@ use Rattle.surface.specs.Table.{cause, _orElse_, treeOf, regionsOf, levels, pla
 use Rattle.surface.specs.Calls.{refused, gives, answer, afterwards, boxCause, LeastLevel, leastOutcome}
 use Rattle.surface.specs.Calls.{activityBytes, activityCause, activityOutcome}
 use Rattle.surface.proofs.Least.{least-le-top}
-use Rattle.quadtree.specs.Paint.{levelMap}
+use Rattle.rows.specs.Rows.{levelRows}
 use Rattle.quadtree.specs.Visit.{LeastUnder}
 use Rattle.activity.specs.Mark.{levelMarks, activeMark}
 use Rattle.surface.proofs.TableLaws.{orElse-first}
 use Rattle.answers.proofs.AnswerLaws.{refusal, kept}
-use Rattle.table.proofs.CauseLaws.{map-least}
+use Rattle.table.proofs.CauseLaws.{rows-least}
 
 -- ---- the least level under a box
 
@@ -104,14 +104,14 @@ module _ (W H : ℕ) (t : List ℕ) (L : ℕ) (out : List ℕ) where
     m ∙ ap (λ m. afterwards m out (activityBytes W H t L)) e,
   )
 
--- ---- the map of levels in place of the tree
+-- ---- the rows in place of the tree
 
--- the marks under the map are the bytes under the tree
-pub marks : (W H : ℕ) (t : List ℕ) (L : ℕ) (map new : List ℕ) → W ≤ 8 → H ≤ 8 → map ≡ levelMap t
-    → new ≡ levelMarks W H L map → new ≡ activityBytes W H t L
+-- the marks under the rows are the bytes under the tree
+pub marks : (W H : ℕ) (t : List ℕ) (L : ℕ) (rows new : List ℕ) → W ≤ 8 → H ≤ 8 → rows ≡ levelRows t
+    → new ≡ levelMarks W H L rows → new ≡ activityBytes W H t L
 unfolding activityBytes
-marks W H t L map new hW hH e m =
+marks W H t L rows new hW hH e m =
     m
-    ∙ grid-cong (functions W L) (functions H L) (activeMark W H L map) (λ a b. cond (active W H (levels t) L a b) 1 0)
+    ∙ grid-cong (functions W L) (functions H L) (activeMark W H L rows) (λ a b. cond (active W H (levels t) L a b) 1 0)
     λ a b _ _. ap (λ l. cond (eqb l L) 1 0)
-    (map-least W H t map L a b hW hH e)
+    (rows-least W H t rows L a b hW hH e)

@@ -16,7 +16,8 @@ pub fn least_level(
     ensures { λ r. ⌜ leastAnswer r
         ≡ leastOutcome w h (now (tree .entry)) (record { u0 = u0; v0 = v0; u1 = u1; v1 = v1 }) ⌝ }
 {
-    let region = table::cause::region_cause(w, h, tree);
+    let mut rows = [0u32; 96];
+    let region = table::cause::region_cause(w, h, tree, &mut rows);
     if region != 0 {
         return answers::Least::Refused(region);
     }
@@ -43,7 +44,8 @@ pub fn activity_of(
     ensures { λ r. ⌜ (outcomeAnswer r ≡ (activityOutcome w h (now (tree .entry)) level (now (out .entry))) .result)
         × (now (out .exit) ≡ (activityOutcome w h (now (tree .entry)) level (now (out .entry))) .after) ⌝ }
 {
-    let region = table::cause::region_cause(w, h, tree);
+    let mut rows = [0u32; 96];
+    let region = table::cause::region_cause(w, h, tree, &mut rows);
     if region != 0 {
         return answers::Outcome::Refused(region);
     }
@@ -53,9 +55,8 @@ pub fn activity_of(
     if out.len() != coefficients::places(w, h, level) {
         return answers::Outcome::Refused(16);
     }
-    let map = quadtree::paint::paint(tree);
     let n = coefficients::functions(w, level);
     let m = coefficients::functions(h, level);
-    activity::mark::mark_level(&map, w, h, level, n, m, out);
+    activity::mark::mark_level(&rows, w, h, level, n, m, out);
     answers::Outcome::Done
 }

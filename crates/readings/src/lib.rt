@@ -9,8 +9,8 @@ ghost use Rattle.answers.specs.Answers.{wattsAnswer, displayAnswer, costAnswer}
 pub fn exact(w: usize, h: usize, tree: &[u8], cs: &[i64], u: usize, v: usize) -> answers::Exact
     ensures { λ r. ⌜ ExactPromise w h (record { tree = now (tree .entry); numbers = now (cs .entry) }) u v r ⌝ }
 {
-    let mut map = [0u8; 1024];
-    let refusal = table::cause::check(w, h, tree, cs, &mut map);
+    let mut rows = [0u32; 96];
+    let refusal = table::cause::check(w, h, tree, cs, &mut rows);
     if refusal != 0 {
         return answers::Exact::Refused(refusal);
     }
@@ -20,7 +20,7 @@ pub fn exact(w: usize, h: usize, tree: &[u8], cs: &[i64], u: usize, v: usize) ->
     if 128 * h < v {
         return answers::Exact::Refused(6);
     }
-    answers::Exact::Numerator(point::reading_at(cs, &map, w, h, u, v))
+    answers::Exact::Numerator(point::reading_at(cs, &rows, w, h, u, v))
 }
 
 // The watts as an f64, within 2^-30 of the exact reading.

@@ -6,12 +6,11 @@ use Prim.Native.Nat.{ℕ, zero, suc, _+_, _-_, _*_, _/_, _^_, _≤_, _<_}
 use native.Mathlib.Nat.{one-le-pow, mul-le-mul, mul-assoc, mul-left-comm, not-suc-le-zero, zero-add}
 use native.Mathlib.Decide.{decLt}
 use native.Mathlib.Omega.{arith}
-use lib.ListN.{length, getD, set, length-append, length-set, List·getD-append}
-use lib.Seq.{getD-append-add, getD-set-same, getD-set-other}
+use lib.ListN.{length, getD, set, take, length-append, length-set, List·getD-append}
+use lib.Seq.{getD-append-add, getD-set-same, getD-set-other, ext-getD, getD-take, length-take-le}
 use Rattle.surface.specs.Quadtree.{Quadtree, leaf, split, bytes, equalLeaves, join, regionTree}
 use Rattle.quadtree.proofs.SubtreeLaws.{bytes-some}
-use Rattle.activity.specs.Minima.{levelsOf}
-use Rattle.regions.specs.Regions.{Stands, fourEqual, row, Joined, BuiltFrom, Built, bytesOf}
+use Rattle.regions.specs.Regions.{Stands, fourEqual, row, Joined, BuiltFrom, bytesOf}
 
 -- ---- bytes that stand from a position on
 
@@ -183,24 +182,24 @@ some-area side k e =
     (positive, mul-le-mul positive positive)
 
 -- a tree written behind others leaves them, and stands after them
-onward : {ls : List ℕ} {at mid next x y side : ℕ} {map m new : List ℕ} (k : ℕ) → side ≡ 2 ^ k → Stands ls at mid m
-    → BuiltFrom x y side map mid next m new → Stands (ls ++ bytesOf k x y map) at next new
+onward : {ls : List ℕ} {at mid next x y side : ℕ} {lev : ℕ → ℕ → ℕ} {m new : List ℕ} (k : ℕ) → side ≡ 2 ^ k → Stands ls at mid m
+    → BuiltFrom x y side lev mid next m new → Stands (ls ++ bytesOf k x y lev) at next new
 onward k e s d = stands-append (stands-kept s (d .before-it)) (d .tree k e)
 
-pub built-one : (x y side at : ℕ) (map out : List ℕ) → side ≡ 1 → length out ≡ 1365 → at < 1365
-    → BuiltFrom x y side map at (at + 1) out (set out at (getD map (y * 32 + x) 0))
+pub built-one : (x y side at v : ℕ) (lev : ℕ → ℕ → ℕ) (out : List ℕ) → side ≡ 1 → length out ≡ 1365 → at < 1365
+    → v ≡ lev x y → BuiltFrom x y side lev at (at + 1) out (set out at v)
 unfolding bytes regionTree
-built-one x y side at map out one size fits =
+built-one x y side at v lev out one size fits same =
     record {
-      size = length-set out at (levelsOf map x y) ∙ size;
+      size = length-set out at v ∙ size;
       forth = omega arith;
       room = rw one (omega arith);
       tree = λ k e. tree k (sym e ∙ one);
-      before-it = λ p l. getD-set-other out at p (levelsOf map x y) 0 (λ e. omega arith);
+      before-it = λ p l. getD-set-other out at p v 0 (λ e. omega arith);
     }
   where
-    tree : (k : ℕ) → 2 ^ k ≡ 1 → Stands (bytesOf k x y map) at (at + 1) (set out at (levelsOf map x y))
-    tree zero e = stands-one at (levelsOf map x y) out (omega arith)
+    tree : (k : ℕ) → 2 ^ k ≡ 1 → Stands (bytesOf k x y lev) at (at + 1) (set out at v)
+    tree zero e = rw (← same) (stands-one at v out (omega arith))
     tree (suc k) e = absurd (omega (arith, one-le-pow k 2 (omega arith)))
 
 region-join : (k x y h : ℕ) (lev : ℕ → ℕ → ℕ) → h ≡ 2 ^ k
@@ -210,14 +209,14 @@ region-join : (k x y h : ℕ) (lev : ℕ → ℕ → ℕ) → h ≡ 2 ^ k
 unfolding regionTree
 region-join k x y h lev e = rw e
 
-pub built-four : (x y side at : ℕ) (map : List ℕ) {p₁ p₂ p₃ p₄ next : ℕ} {out m₁ m₂ m₃ m₄ new : List ℕ} → Halved side
-    → BuiltFrom x y (side / 2) map (at + 1) p₁ out m₁
-    → BuiltFrom (x + side / 2) y (side / 2) map p₁ p₂ m₁ m₂
-    → BuiltFrom x (y + side / 2) (side / 2) map p₂ p₃ m₂ m₃
-    → BuiltFrom (x + side / 2) (y + side / 2) (side / 2) map p₃ p₄ m₃ m₄
+pub built-four : (x y side at : ℕ) (lev : ℕ → ℕ → ℕ) {p₁ p₂ p₃ p₄ next : ℕ} {out m₁ m₂ m₃ m₄ new : List ℕ} → Halved side
+    → BuiltFrom x y (side / 2) lev (at + 1) p₁ out m₁
+    → BuiltFrom (x + side / 2) y (side / 2) lev p₁ p₂ m₁ m₂
+    → BuiltFrom x (y + side / 2) (side / 2) lev p₂ p₃ m₂ m₃
+    → BuiltFrom (x + side / 2) (y + side / 2) (side / 2) lev p₃ p₄ m₃ m₄
     → Joined at p₄ next m₄ new
-    → BuiltFrom x y side map at next out new
-built-four x y side at map {p₁} {p₂} {p₃} {p₄} {next} {out} {m₁} {m₂} {m₃} {m₄} {new} s d₁ d₂ d₃ d₄ jn =
+    → BuiltFrom x y side lev at next out new
+built-four x y side at lev {p₁} {p₂} {p₃} {p₄} {next} {out} {m₁} {m₂} {m₃} {m₄} {new} s d₁ d₂ d₃ d₄ jn =
     record {
       size = jn .size;
       forth = jn .forth;
@@ -231,27 +230,30 @@ built-four x y side at map {p₁} {p₂} {p₃} {p₄} {next} {out} {m₁} {m₂
           ∙ d₁ .before-it p (omega arith);
     }
   where
-    tree : (k : ℕ) → side ≡ 2 ^ k → Stands (bytesOf k x y map) at next new
+    tree : (k : ℕ) → side ≡ 2 ^ k → Stands (bytesOf k x y lev) at next new
     tree zero e = absurd (omega (arith, s .twice))
     tree (suc k) e =
         let half : side / 2 ≡ 2 ^ k = omega arith in
-        rw (region-join k x y (side / 2) (levelsOf map) half)
+        rw (region-join k x y (side / 2) lev half)
         (jn .tree
-        (regionTree k x y (levelsOf map))
-        (regionTree k (x + side / 2) y (levelsOf map))
-        (regionTree k x (y + side / 2) (levelsOf map))
-        (regionTree k (x + side / 2) (y + side / 2) (levelsOf map))
+        (regionTree k x y lev)
+        (regionTree k (x + side / 2) y lev)
+        (regionTree k x (y + side / 2) lev)
+        (regionTree k (x + side / 2) (y + side / 2) lev)
         (simp append-assoc at (onward k half (onward k half (onward k half (d₁ .tree k half) d₂) d₃) d₄)))
 
--- ---- the whole map
+-- ---- the whole tree
 
-pub built-all : (map : List ℕ) {n : ℕ} {old out : List ℕ} → BuiltFrom 0 0 32 map 0 n old out → Built map n out
-built-all map {n} {old} {out} d =
+pub built-all : (lev : ℕ → ℕ → ℕ) {n : ℕ} {old out : List ℕ} → BuiltFrom 0 0 32 lev 0 n old out
+    → (n ≤ 1365) × (take n out ≡ bytesOf 5 0 0 lev)
+built-all lev {n} {old} {out} d =
     let t = d .tree 5 refl in
-    let long : n ≡ length (bytesOf 5 0 0 map) = t .ends ∙ zero-add (length (bytesOf 5 0 0 map)) in
-    record {
-      size = d .size;
-      fits = omega (arith, d .room);
-      ends = long;
-      here = λ i l. ap (λ p. getD out p 0) (sym (zero-add i)) ∙ t .here i (omega arith);
-    }
+    let long : n ≡ length (bytesOf 5 0 0 lev) = t .ends ∙ zero-add (length (bytesOf 5 0 0 lev)) in
+    let fits : n ≤ 1365 = omega (arith, d .room) in
+    let size : length (take n out) ≡ n = length-take-le n out (omega (arith, d .size)) in (
+      fits,
+      ext-getD 0 (take n out) (bytesOf 5 0 0 lev) (size ∙ long)
+          (λ i l. getD-take n out i 0 (omega arith)
+          ∙ ap (λ p. getD out p 0) (sym (zero-add i))
+          ∙ t .here i (omega arith)),
+    )

@@ -1,4 +1,4 @@
-pub mod RaiseLaws
 pub mod BuildLaws
+pub mod InsertLaws
+pub mod PaintLaws
 pub mod RegionLaws
-pub mod PutLaws

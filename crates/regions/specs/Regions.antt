@@ -1,30 +1,19 @@
--- What raising a map of levels in a box gives, and what the tree of a map is as bytes.
+-- What the insertion of a box into the regions gives, and what the tree of given levels is as bytes.
 use mathlib.Core.Path.{_≡_}
-use mathlib.Core.Bool.{Bool, _&&_}
+use mathlib.Core.Bool.{Bool, _&&_, cond}
 use mathlib.Core.List.{List, _++_}
-use Prim.Native.Nat.{ℕ, _+_, _*_, _^_, _≤_, _<_, max}
+use Prim.Native.Nat.{ℕ, _+_, _*_, _^_, _≤_, _<_}
 use lib.Dec.{eqb}
-use lib.ListN.{length, getD}
+use lib.ListN.{length, getD, take}
 use Rattle.surface.specs.Sheet.{Box}
 use Rattle.surface.specs.Quadtree.{Quadtree, bytes, join, regionTree}
 use Rattle.surface.specs.Carry.{raised}
-use Rattle.activity.specs.Minima.{levelsOf}
-
--- the places from .. to hold the greater of the old level and the one named, the others what they held
-pub record RowRaised (from to level : ℕ) (before after : List ℕ) : Type 0 where
-  pub size : length after ≡ 1024
-  pub inside : (p : ℕ) → from ≤ p → p < to → getD after p 0 ≡ max (getD before p 0) level
-  pub below : (p : ℕ) → p < from → getD after p 0 ≡ getD before p 0
-  pub above : (p : ℕ) → to ≤ p → getD after p 0 ≡ getD before p 0
-
--- the levels of the quarter squares are those that the insertion of the box gives
-pub record Raised (box : Box) (level : ℕ) (before after : List ℕ) : Type 0 where
-  pub size : length after ≡ 1024
-  pub levels : (q r : ℕ) → q < 32 → r < 32 → levelsOf after q r ≡ raised (levelsOf before) box level q r
+use Rattle.surface.specs.Support.{inBox}
+use Rattle.rows.specs.Rows.{levelsOf, Nested, Painted}
 
 -- the tree of the square of side 2^k at (x, y), as bytes
-abbrev pub bytesOf : ℕ → ℕ → ℕ → List ℕ → List ℕ
-bytesOf k x y map = bytes (regionTree k x y (levelsOf map))
+abbrev pub bytesOf : ℕ → ℕ → ℕ → (ℕ → ℕ → ℕ) → List ℕ
+bytesOf k x y lev = bytes (regionTree k x y lev)
 
 -- bytes that stand from a position on, with the position after them
 pub record Stands (bs : List ℕ) (at next : ℕ) (out : List ℕ) : Type 0 where
@@ -52,16 +41,29 @@ pub record Joined (at end next : ℕ) (before after : List ℕ) : Type 0 where
   pub before-it : (p : ℕ) → p < at → getD after p 0 ≡ getD before p 0
 
 -- the tree of a square written from a position on, and nothing before it changed
-pub record BuiltFrom (x y side : ℕ) (map : List ℕ) (at next : ℕ) (before after : List ℕ) : Type 0 where
+pub record BuiltFrom (x y side : ℕ) (lev : ℕ → ℕ → ℕ) (at next : ℕ) (before after : List ℕ) : Type 0 where
   pub size : length after ≡ 1365
   pub forth : at < next
   pub room : 3 * next + 1 ≤ 3 * at + 4 * (side * side)
-  pub tree : (k : ℕ) → side ≡ 2 ^ k → Stands (bytesOf k x y map) at next after
+  pub tree : (k : ℕ) → side ≡ 2 ^ k → Stands (bytesOf k x y lev) at next after
   pub before-it : (p : ℕ) → p < at → getD after p 0 ≡ getD before p 0
 
--- the whole tree
-pub record Built (map : List ℕ) (n : ℕ) (out : List ℕ) : Type 0 where
+-- the level that the insertion of a box names for a square, counted from the corner (x, y): 0 where it names none
+abbrev pub named : Box → ℕ → ℕ → ℕ → ℕ → ℕ → ℕ
+named box level x y q r = cond (inBox box (x + q) (y + r)) level 0
+
+-- the squares of a box in the square of a side at (x, y) are raised to a level, and the tree of their new levels is
+-- written from a position on
+pub record InsertedFrom (x y side : ℕ) (box : Box) (level : ℕ) (rows new : List ℕ) (at next : ℕ)
+    (before after : List ℕ) : Type 0 where
+  pub raises : Painted x y side (named box level x y) rows new
+  pub builds : BuiltFrom x y side (raised (levelsOf rows) box level) at next before after
+
+-- "Insertion gives each square in the box the greater of its old level and the one named": the new levels, and their
+-- tree
+pub record Inserted (box : Box) (level : ℕ) (rows new : List ℕ) (n : ℕ) (out : List ℕ) : Type 0 where
+  pub nested : Nested new
+  pub levels : (q r : ℕ) → q < 32 → r < 32 → levelsOf new q r ≡ raised (levelsOf rows) box level q r
   pub size : length out ≡ 1365
   pub fits : n ≤ 1365
-  pub ends : n ≡ length (bytesOf 5 0 0 map)
-  pub here : (i : ℕ) → i < n → getD out i 0 ≡ getD (bytesOf 5 0 0 map) i 0
+  pub tree : take n out ≡ bytesOf 5 0 0 (raised (levelsOf rows) box level)

@@ -1,4 +1,2 @@
-// The regions after an insertion: the map of levels raised in a box, and the one tree of a map.
-pub mod build;
-pub mod put;
-pub mod raise;
+// The regions after an insertion, and their one tree.
+pub mod insert;

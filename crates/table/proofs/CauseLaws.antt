@@ -9,7 +9,6 @@ use lib.Dec.{leb, ltb, eqb}
 use lib.IntN.{ℤ}
 use lib.ListN.{length}
 use Rattle.finite.specs.Range.{every}
-use Rattle.finite.proofs.Table.{getD-table}
 use Rattle.finite.proofs.Tests.{every-cong, every2-cong}
 use Rattle.surface.specs.Sheet.{Box, goodSide, functions, quarters}
 use Rattle.surface.specs.Support.{leastUnder}
@@ -18,9 +17,9 @@ use Rattle.surface.specs.Table.{withinLimits, passiveZero, regionCause, tableCa
 use Rattle.surface.specs.Calls.{boxCause}
 use Rattle.surface.proofs.Least.{both, leastUnder-cong}
 use Rattle.surface.proofs.TableLaws.{orElse-none, orElse-first, cause-none, good-side}
-use Rattle.quadtree.specs.Paint.{levelMap}
 use Rattle.quadtree.specs.Visit.{InSheet}
-use Rattle.activity.specs.Minima.{levelsOf}
+use Rattle.rows.specs.Rows.{levelsOf, levelRows}
+use Rattle.rows.proofs.RowLaws.{level-rows}
 use Rattle.table.specs.Faults.{Test, limits, zeros, holdsAt, holdsOn}
 
 -- ---- causes 1 and 2
@@ -71,45 +70,39 @@ module _ (W H : ℕ) (t : List ℕ) (cs : List ℤ) where
       (passiveZero W H (levels t) (coefficients W H cs)) in
       orElse-first r rest h ∙ ap (λ r. r orElse rest) e
 
--- ---- the map of levels in place of the tree
+-- ---- the rows in place of the tree
 
-pub map-level : (t : List ℕ) (q r : ℕ) → q < 32 → r < 32 → levelsOf (levelMap t) q r ≡ levels t q r
-unfolding levelMap
-map-level t q r hq hr =
-    getD-table 0 1024 (λ p. levels t (p % 32) (p / 32)) (r * 32 + q) 0 (omega arith)
-    ∙ ap₂ (levels t) (omega arith) (omega arith)
+-- the least level under a support by the rows is that by the tree
+pub rows-least : (W H : ℕ) (t rows : List ℕ) (L a b : ℕ) → W ≤ 8 → H ≤ 8 → rows ≡ levelRows t
+    → leastUnder W H (levelsOf rows) L a b ≡ leastUnder W H (levels t) L a b
+rows-least W H t rows L a b hW hH e =
+    leastUnder-cong W H (levelsOf rows) (levels t)
+    (λ q r hq hr. ap (λ m. levelsOf m q r) e ∙ level-rows t q r (omega arith) (omega arith)) L a b
 
--- the least level under a support by the map is that by the tree
-pub map-least : (W H : ℕ) (t map : List ℕ) (L a b : ℕ) → W ≤ 8 → H ≤ 8 → map ≡ levelMap t
-    → leastUnder W H (levelsOf map) L a b ≡ leastUnder W H (levels t) L a b
-map-least W H t map L a b hW hH e =
-    leastUnder-cong W H (levelsOf map) (levels t)
-    (λ q r hq hr. ap (λ m. levelsOf m q r) e ∙ map-level t q r (omega arith) (omega arith)) L a b
-
-module _ (W H : ℕ) (t : List ℕ) (cs : List ℤ) (map : List ℕ) (hW : W ≤ 8) (hH : H ≤ 8) (e : map ≡ levelMap t) where
-  by-map : (p : Test)
-      → every 4 (λ L. holdsOn p W H (levelsOf map) cs L) ≡ every 4 (λ L. holdsOn p W H (levels t) cs L)
-  by-map p =
-      every-cong 4 (λ L. holdsOn p W H (levelsOf map) cs L) (λ L. holdsOn p W H (levels t) cs L)
-      λ L _. every2-cong (functions W L) (functions H L) (λ a b. holdsAt p W H (levelsOf map) cs L a b)
+module _ (W H : ℕ) (t : List ℕ) (cs : List ℤ) (rows : List ℕ) (hW : W ≤ 8) (hH : H ≤ 8) (e : rows ≡ levelRows t) where
+  by-rows : (p : Test)
+      → every 4 (λ L. holdsOn p W H (levelsOf rows) cs L) ≡ every 4 (λ L. holdsOn p W H (levels t) cs L)
+  by-rows p =
+      every-cong 4 (λ L. holdsOn p W H (levelsOf rows) cs L) (λ L. holdsOn p W H (levels t) cs L)
+      λ L _. every2-cong (functions W L) (functions H L) (λ a b. holdsAt p W H (levelsOf rows) cs L a b)
       (λ a b. holdsAt p W H (levels t) cs L a b)
-      λ a b _ _. ap (p L (coefficients W H cs L a b)) (map-least W H t map L a b hW hH e)
+      λ a b _ _. ap (λ v. p L (eqb v L) (coefficients W H cs L a b)) (rows-least W H t rows L a b hW hH e)
 
-  -- a flag of the faults under the map, with its value
-  flag : (p : Test) {f g : Bool} → f ≡ not (every 4 (λ L. holdsOn p W H (levelsOf map) cs L)) → f ≡ not g
+  -- a flag of the faults under the rows, with its value
+  flag : (p : Test) {f g : Bool} → f ≡ not (every 4 (λ L. holdsOn p W H (levelsOf rows) cs L)) → f ≡ not g
       → g ≡ every 4 (λ L. holdsOn p W H (levels t) cs L)
   flag p {f} {g} h k =
       sym (Bool·not-not g)
       ∙ ap not (sym k ∙ h)
-      ∙ Bool·not-not (every 4 (λ L. holdsOn p W H (levelsOf map) cs L))
-      ∙ by-map p
+      ∙ Bool·not-not (every 4 (λ L. holdsOn p W H (levelsOf rows) cs L))
+      ∙ by-rows p
 
-  pub limits-flag : {f g : Bool} → f ≡ not (every 4 (λ L. holdsOn limits W H (levelsOf map) cs L)) → f ≡ not g
+  pub limits-flag : {f g : Bool} → f ≡ not (every 4 (λ L. holdsOn limits W H (levelsOf rows) cs L)) → f ≡ not g
       → g ≡ withinLimits W H (levels t) (coefficients W H cs)
   unfolding withinLimits
   limits-flag h k = flag limits h k
 
-  pub zeros-flag : {f g : Bool} → f ≡ not (every 4 (λ L. holdsOn zeros W H (levelsOf map) cs L)) → f ≡ not g
+  pub zeros-flag : {f g : Bool} → f ≡ not (every 4 (λ L. holdsOn zeros W H (levelsOf rows) cs L)) → f ≡ not g
       → g ≡ passiveZero W H (levels t) (coefficients W H cs)
   unfolding passiveZero
   zeros-flag h k = flag zeros h k

@@ -12,10 +12,9 @@ use Rattle.finite.specs.Range.{every, every2}
 use Rattle.finite.proofs.Tests.{same-test, every-cong, every2-cong, every2-true, every2-intro}
 use Rattle.finite.proofs.Table.{place-below}
 use Rattle.surface.specs.Sheet.{functions}
-use Rattle.surface.specs.Support.{leastUnder}
+use Rattle.surface.specs.Support.{active}
 use Rattle.surface.specs.Table.{limit, places, start, coefficients}
 use Rattle.coefficients.proofs.Parts.{part, part-length, part-at}
-use Rattle.activity.specs.Minima.{levelsOf}
 use Rattle.table.specs.Faults.{Test, holdsAt, holdsOn, partHoldsAt, partHolds}
 
 -- ---- flags
@@ -60,19 +59,18 @@ limit-below L h =
     let power : 64 ^ L ≤ 262144 = pow-le-pow-right {n = 64} (omega arith) {i = L} {j = 3} h in
     omega (arith, mul-le-mul-left 32000 power)
 
--- a test of a row's coefficients and of the least levels found is the test at the functions of row b
-pub row-holds : (W H L b n : ℕ) (cs : List ℤ) (map least : List ℕ) → n ≡ functions W L → b * n + n ≤ length cs
-    → ((a : ℕ) → a < functions W L → getD least a 0 ≡ leastUnder W H (levelsOf map) L a b) → (p : Test)
-    → every (length (part (b * n) n cs)) (λ a. p L (getD (part (b * n) n cs) a (pos 0)) (getD least a 0))
-    ≡ every (functions W L) (λ a. partHoldsAt p W H (levelsOf map) cs L a b)
-row-holds W H L b n cs map least columns fits under p =
-    ap (λ k. every k (λ a. p L (getD (part (b * n) n cs) a (pos 0)) (getD least a 0)))
+-- a test of a row's coefficients, by which functions are marked, is the test at the functions of row b
+pub row-holds : (W H L b n : ℕ) (cs : List ℤ) (lev : ℕ → ℕ → ℕ) (mark : ℕ → Bool) → n ≡ functions W L
+    → b * n + n ≤ length cs → ((a : ℕ) → a < functions W L → mark a ≡ active W H lev L a b) → (p : Test)
+    → every (length (part (b * n) n cs)) (λ a. p L (mark a) (getD (part (b * n) n cs) a (pos 0)))
+    ≡ every (functions W L) (λ a. partHoldsAt p W H lev cs L a b)
+row-holds W H L b n cs lev mark columns fits marked p =
+    ap (λ k. every k (λ a. p L (mark a) (getD (part (b * n) n cs) a (pos 0))))
     (part-length (b * n) n cs fits ∙ columns)
-    ∙ every-cong (functions W L) (λ a. p L (getD (part (b * n) n cs) a (pos 0)) (getD least a 0))
-    (λ a. partHoldsAt p W H (levelsOf map) cs L a b)
-    (λ a ha. ap₂ (p L)
-    (part-at (b * n) n cs a (subst (λ k. a < k) (sym columns) ha) ∙ ap (λ k. getD cs (b * k + a) (pos 0)) columns)
-    (under a ha))
+    ∙ every-cong (functions W L) (λ a. p L (mark a) (getD (part (b * n) n cs) a (pos 0)))
+    (λ a. partHoldsAt p W H lev cs L a b)
+    (λ a ha. ap₂ (p L) (marked a ha)
+    (part-at (b * n) n cs a (subst (λ k. a < k) (sym columns) ha) ∙ ap (λ k. getD cs (b * k + a) (pos 0)) columns))
 
 -- a coefficient of a level stands in the level's part
 pub level-at : (W H L first size : ℕ) (cs : List ℤ) → first ≡ start W H L → size ≡ places W H L → (a b : ℕ)
@@ -91,7 +89,7 @@ level-holds : (W H L first size : ℕ) (lev : ℕ → ℕ → ℕ) (cs : List �
 level-holds W H L first size lev cs begins sized p =
     every2-cong (functions W L) (functions H L) (λ a b. partHoldsAt p W H lev (part first size cs) L a b)
     (λ a b. holdsAt p W H lev cs L a b)
-    λ a b ha hb. ap (λ c. p L c (leastUnder W H lev L a b)) (level-at W H L first size cs begins sized a b ha hb)
+    λ a b ha hb. ap (p L (active W H lev L a b)) (level-at W H L first size cs begins sized a b ha hb)
 
 -- a flag of the part is the flag of the level
 pub level-lost : (W H L first size : ℕ) (lev : ℕ → ℕ → ℕ) (cs : List ℤ) → first ≡ start W H L

@@ -1,2 +1,3 @@
-pub mod CauseLaws
+pub mod RowFaultLaws
 pub mod FaultLaws
+pub mod CauseLaws

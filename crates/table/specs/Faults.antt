@@ -1,30 +1,46 @@
--- What the faults of a level's coefficients and of a table's are, under a map of levels.
+-- What the faults of a row, of a level's coefficients and of a table's are.
 use mathlib.Core.Path.{_≡_}
-use mathlib.Core.Bool.{Bool, not}
+use mathlib.Core.Bool.{Bool, not, _||_}
 use mathlib.Core.List.{List}
 use Prim.Native.Nat.{ℕ, _+_, _*_}
-use lib.IntN.{ℤ, pos}
-use lib.ListN.{getD}
+use lib.IntN.{ℤ, pos, natAbs}
+use lib.Dec.{leb, eqb}
+use lib.ListN.{length, getD}
 use Rattle.finite.specs.Range.{every, every2}
 use Rattle.surface.specs.Sheet.{functions}
-use Rattle.surface.specs.Support.{leastUnder}
+use Rattle.surface.specs.Support.{active}
 use Rattle.surface.specs.Table.{limit, coefficients}
-use Rattle.activity.specs.Minima.{levelsOf}
-use Rattle.coefficients.specs.Faults.{keepsLimit, keepsZero}
+use Rattle.rows.specs.Rows.{levelsOf}
 
--- a test of a coefficient of a level and of the least level under its function
+-- an active coefficient is at most m in size; a passive one is 0
+abbrev pub keepsLimit : ℕ → Bool → ℤ → Bool
+keepsLimit m isActive c = not isActive || leb (natAbs c) m
+
+abbrev pub keepsZero : Bool → ℤ → Bool
+keepsZero isActive c = isActive || eqb (natAbs c) 0
+
+-- the faults among the first k of a row of coefficients, by which of its functions are active
+pub record FaultsBelow (k m : ℕ) (isActive : ℕ → Bool) (row : List ℤ) (over stray : Bool) : Type 0 where
+  pub limits : over ≡ not (every k (λ a. keepsLimit m (isActive a) (getD row a (pos 0))))
+  pub zeros : stray ≡ not (every k (λ a. keepsZero (isActive a) (getD row a (pos 0))))
+
+-- the faults of the whole row
+abbrev pub RowFaults : ℕ → (ℕ → Bool) → List ℤ → Bool → Bool → Type 0
+RowFaults m isActive row over stray = FaultsBelow (length row) m isActive row over stray
+
+-- a test of a coefficient of a level, by whether its function is active
 abbrev pub Test : Type 0
-Test = ℕ → ℤ → ℕ → Bool
+Test = ℕ → Bool → ℤ → Bool
 
 abbrev pub limits : Test
-limits L = keepsLimit L (limit L)
+limits L = keepsLimit (limit L)
 
 abbrev pub zeros : Test
-zeros L = keepsZero L
+zeros L = keepsZero
 
 -- the test at function (a, b) of level L
 abbrev pub holdsAt : Test → ℕ → ℕ → (ℕ → ℕ → ℕ) → List ℤ → ℕ → ℕ → ℕ → Bool
-holdsAt p W H lev cs L a b = p L (coefficients W H cs L a b) (leastUnder W H lev L a b)
+holdsAt p W H lev cs L a b = p L (active W H lev L a b) (coefficients W H cs L a b)
 
 -- at each function of level L
 abbrev pub holdsOn : Test → ℕ → ℕ → (ℕ → ℕ → ℕ) → List ℤ → ℕ → Bool
@@ -32,18 +48,18 @@ holdsOn p W H lev cs L = every2 (functions W L) (functions H L) (λ a b. holdsAt
 
 -- the test at function (a, b) of level L, whose part of the coefficients is given
 abbrev pub partHoldsAt : Test → ℕ → ℕ → (ℕ → ℕ → ℕ) → List ℤ → ℕ → ℕ → ℕ → Bool
-partHoldsAt p W H lev part L a b = p L (getD part (b * functions W L + a) (pos 0)) (leastUnder W H lev L a b)
+partHoldsAt p W H lev part L a b = p L (active W H lev L a b) (getD part (b * functions W L + a) (pos 0))
 
 -- at each function of level L
 abbrev pub partHolds : Test → ℕ → ℕ → (ℕ → ℕ → ℕ) → List ℤ → ℕ → Bool
 partHolds p W H lev part L = every2 (functions W L) (functions H L) (λ a b. partHoldsAt p W H lev part L a b)
 
 -- the faults of a level's part
-pub record LevelFaults (W H L : ℕ) (map : List ℕ) (part : List ℤ) (over stray : Bool) : Type 0 where
-  pub limited : over ≡ not (partHolds limits W H (levelsOf map) part L)
-  pub zeroed : stray ≡ not (partHolds zeros W H (levelsOf map) part L)
+pub record LevelFaults (W H L : ℕ) (rows : List ℕ) (part : List ℤ) (over stray : Bool) : Type 0 where
+  pub limited : over ≡ not (partHolds limits W H (levelsOf rows) part L)
+  pub zeroed : stray ≡ not (partHolds zeros W H (levelsOf rows) part L)
 
 -- the faults of the four levels
-pub record TableFaults (W H : ℕ) (map : List ℕ) (cs : List ℤ) (over stray : Bool) : Type 0 where
-  pub limited : over ≡ not (every 4 (λ L. holdsOn limits W H (levelsOf map) cs L))
-  pub zeroed : stray ≡ not (every 4 (λ L. holdsOn zeros W H (levelsOf map) cs L))
+pub record TableFaults (W H : ℕ) (rows : List ℕ) (cs : List ℤ) (over stray : Bool) : Type 0 where
+  pub limited : over ≡ not (every 4 (λ L. holdsOn limits W H (levelsOf rows) cs L))
+  pub zeroed : stray ≡ not (every 4 (λ L. holdsOn zeros W H (levelsOf rows) cs L))

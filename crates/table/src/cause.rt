@@ -5,7 +5,7 @@ ghost use Rattle.surface.specs.Sheet.{goodSide};
 ghost use Rattle.surface.specs.Table.{regionCause, tableCause};
 ghost use Rattle.surface.specs.Calls.{boxCause};
 ghost use Rattle.quadtree.specs.Visit.{boxOf};
-ghost use Rattle.quadtree.specs.Paint.{levelMap};
+ghost use Rattle.rows.specs.Rows.{levelRows};
 
 pub fn good_side(n: usize) -> bool
     ensures { λ r. ⌜ r ≡ goodSide n ⌝ }
@@ -13,13 +13,13 @@ pub fn good_side(n: usize) -> bool
     if 1 <= n { n <= 8 } else { false }
 }
 
-// Causes 1 and 2: the sides and the tree.
-pub fn region_cause(w: usize, h: usize, t: &[u8]) -> u8
-    ensures { λ r. ⌜ r ≡ regionCause w h (now (t .entry)) ⌝ }
+// Causes 1 and 2: the sides and the tree, with its regions where none applies.
+pub fn region_cause(w: usize, h: usize, t: &[u8], rows: &mut [u32; 96]) -> u8
+    ensures { λ r. ⌜ (r ≡ regionCause w h (now (t .entry))) × (r ≡ 0 → now (rows .exit) ≡ levelRows (now (t .entry))) ⌝ }
 {
     if good_side(w) {
         if good_side(h) {
-            if quadtree::check::well_formed(t, w, h) {
+            if quadtree::walk::regions(t, w, h, rows) {
                 return 0;
             }
             return 2;
@@ -48,12 +48,12 @@ pub fn box_cause(w: usize, h: usize, a: quadtree::visit::Area) -> u8
     0
 }
 
-// Causes 1 to 5, with the map of levels where none applies.
-pub fn check(w: usize, h: usize, t: &[u8], cs: &[i64], map: &mut [u8; 1024]) -> u8
+// Causes 1 to 5, with the regions where none applies.
+pub fn check(w: usize, h: usize, t: &[u8], cs: &[i64], rows: &mut [u32; 96]) -> u8
     ensures { λ r. ⌜ (r ≡ tableCause w h (now (t .entry)) (now (cs .entry)))
-        × (r ≡ 0 → now (map .exit) ≡ levelMap (now (t .entry))) ⌝ }
+        × (r ≡ 0 → now (rows .exit) ≡ levelRows (now (t .entry))) ⌝ }
 {
-    let region = region_cause(w, h, t);
+    let region = region_cause(w, h, t, rows);
     if region != 0 {
         return region;
     }
@@ -61,8 +61,7 @@ pub fn check(w: usize, h: usize, t: &[u8], cs: &[i64], map: &mut [u8; 1024]) -> 
     if cs.len() != slots {
         return 3;
     }
-    *map = quadtree::paint::paint(t);
-    let f = super::faults::table_faults(cs, map, w, h);
+    let f = super::faults::table_faults(cs, rows, w, h);
     if f.over {
         return 4;
     }
@@ -76,6 +75,6 @@ pub fn check(w: usize, h: usize, t: &[u8], cs: &[i64], map: &mut [u8; 1024]) -> 
 pub fn table_cause(w: usize, h: usize, t: &[u8], cs: &[i64]) -> u8
     ensures { λ r. ⌜ r ≡ tableCause w h (now (t .entry)) (now (cs .entry)) ⌝ }
 {
-    let mut map = [0u8; 1024];
-    check(w, h, t, cs, &mut map)
+    let mut rows = [0u32; 96];
+    check(w, h, t, cs, &mut rows)
 }

@@ -1,49 +1,88 @@
-// Faults of a level's coefficients and of a table's: an active one past its limit, a passive one that is not 0.
+// Faults of a row of coefficients, of a level's and of a table's: an active one past its limit, a passive one that is
+// not 0.
 ghost use mathlib.Core.Path.{_≡_};
-ghost use Prim.Native.Nat.{_≤_, _<_};
+ghost use mathlib.Core.Bool.{_||_};
+ghost use Prim.Native.Nat.{ℕ, _*_, _≤_, _<_};
+ghost use lib.IntN.{pos};
 ghost use lib.ListN.{length};
 ghost use Rattle.surface.specs.Table.{places, slots};
-ghost use Rattle.table.specs.Faults.{LevelFaults, TableFaults};
+ghost use Rattle.rows.specs.Rows.{Nested};
+ghost use Rattle.activity.specs.Marks.{marked};
+ghost use Rattle.table.specs.Faults.{RowFaults, LevelFaults, TableFaults};
 
-// The faults of a level, given its part of the coefficients and the map of levels.
-fn level_faults(
-    part: &[i64],
-    map: &[u8; 1024],
-    w: usize,
-    h: usize,
-    level: usize,
-) -> coefficients::faults::Faults
-    requires { ⌜ (0 < w) × (w ≤ 8) × (h ≤ 8) × (level ≤ 3) × (length (now part) ≡ places w h level) ⌝ }
-    ensures { λ r. ⌜ LevelFaults w h level (now (map .entry)) (now (part .entry)) (r .over) (r .stray) ⌝ }
+// Whether some active coefficient is past its limit, and whether some passive one is not 0.
+pub struct Faults {
+    pub over: bool,
+    pub stray: bool,
+}
+
+fn either(a: bool, b: bool) -> bool
+    ensures { λ r. ⌜ r ≡ (a || b) ⌝ }
+{
+    if a { true } else { b }
+}
+
+// The faults of one row of a level, whose active functions are marked; a cell's side is e eighths.
+fn row_faults(row: &[i64], marks: activity::Marks, e: usize, limit: i64) -> Faults
+    requires { ⌜ (length (now row) * e ≤ 88) × (1 ≤ e) × (e ≤ 8)
+        × ((m : ℕ) × (limit ≡ pos m) × (m < 9000000000)) ⌝ }
+    ensures { λ r. ⌜ ((m : ℕ) → limit ≡ pos m
+        → RowFaults m (marked e marks) (now (row .entry)) (r .over) (r .stray)) ⌝ }
+{
+    let n = row.len();
+    let mut over = false;
+    let mut stray = false;
+    let mut next = 0;
+    while next < n {
+        let a = next;
+        let c = row[a];
+        next += 1;
+        if c == 0 {
+            continue;
+        }
+        if !activity::is_marked(marks, a, e) {
+            stray = true;
+            continue;
+        }
+        if limit < c {
+            over = true;
+            continue;
+        }
+        if c < 0 - limit {
+            over = true;
+        }
+    }
+    Faults { over, stray }
+}
+
+// The faults of a level, given its part of the coefficients and the regions.
+fn level_faults(part: &[i64], rows: &[u32; 96], w: usize, h: usize, level: usize) -> Faults
+    requires { ⌜ (w ≤ 8) × (h ≤ 8) × (level ≤ 3) × (length (now part) ≡ places w h level) × Nested (now rows) ⌝ }
+    ensures { λ r. ⌜ LevelFaults w h level (now (rows .entry)) (now (part .entry)) (r .over) (r .stray) ⌝ }
 {
     let n = coefficients::functions(w, level);
     let m = coefficients::functions(h, level);
     let bound = coefficients::limit(level);
-    let minima = activity::row_minima(map, w, h, level, n);
+    let e = activity::eighths(level);
     let mut over = false;
     let mut stray = false;
     let mut b = 0;
     while b < m {
-        let least = activity::support_minima(&minima, h, level, b);
+        let marks = activity::active_row(rows, w, h, level, b);
         let from = b * n;
         let to = from + n;
-        let f = coefficients::faults::row_faults(&part[from..to], &least, level as u8, bound);
-        over = coefficients::faults::either(over, f.over);
-        stray = coefficients::faults::either(stray, f.stray);
+        let f = row_faults(&part[from..to], marks, e, bound);
+        over = either(over, f.over);
+        stray = either(stray, f.stray);
         b += 1;
     }
-    coefficients::faults::Faults { over, stray }
+    Faults { over, stray }
 }
 
 // The faults of all levels: each level's part of the coefficients is handed on.
-pub fn table_faults(
-    cs: &[i64],
-    map: &[u8; 1024],
-    w: usize,
-    h: usize,
-) -> coefficients::faults::Faults
-    requires { ⌜ (0 < w) × (w ≤ 8) × (h ≤ 8) × (length (now cs) ≡ slots w h) ⌝ }
-    ensures { λ r. ⌜ TableFaults w h (now (map .entry)) (now (cs .entry)) (r .over) (r .stray) ⌝ }
+pub fn table_faults(cs: &[i64], rows: &[u32; 96], w: usize, h: usize) -> Faults
+    requires { ⌜ (w ≤ 8) × (h ≤ 8) × (length (now cs) ≡ slots w h) × Nested (now rows) ⌝ }
+    ensures { λ r. ⌜ TableFaults w h (now (rows .entry)) (now (cs .entry)) (r .over) (r .stray) ⌝ }
 {
     let mut over = false;
     let mut stray = false;
@@ -51,10 +90,10 @@ pub fn table_faults(
     while level < 4 {
         let first = coefficients::start(w, h, level);
         let end = first + coefficients::places(w, h, level);
-        let f = level_faults(&cs[first..end], map, w, h, level);
-        over = coefficients::faults::either(over, f.over);
-        stray = coefficients::faults::either(stray, f.stray);
+        let f = level_faults(&cs[first..end], rows, w, h, level);
+        over = either(over, f.over);
+        stray = either(stray, f.stray);
         level += 1;
     }
-    coefficients::faults::Faults { over, stray }
+    Faults { over, stray }
 }

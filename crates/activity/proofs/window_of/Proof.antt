@@ -4,7 +4,7 @@ use mathlib.Core.Path.{_≡_}
 use Prim.Native.Nat.{_+_, _*_, _-_, _≤_, min}
 use native.Mathlib.Omega.{arith}
 use borrow.Author.Needs.{needs}
-use Rattle.activity.proofs.MinimaLaws.{eighths-le, place-le}
+use Rattle.activity.proofs.WindowLaws.{eighths-le, place-le}
 use Rattle.activity.proofs.window_of.Statement.{statement}
 use Rattle.activity.proofs.window_of.Tie as tie
 

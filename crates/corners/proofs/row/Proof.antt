@@ -10,7 +10,7 @@ use mir.ValLaws.{toZ-ofZ}
 use borrow.Author.Needs.{sfits-of}
 use Rattle.surface.specs.Table.{Acceptable}
 use Rattle.surface.proofs.TableLaws.{sound, sides}
-use Rattle.quadtree.specs.Paint.{levelMap}
+use Rattle.rows.specs.Rows.{levelRows}
 use Rattle.finite.specs.Range.{joined}
 use Rattle.corners.specs.Text.{line, cornerLine}
 use Rattle.corners.specs.Buffers.{Put}
@@ -19,15 +19,15 @@ use Rattle.corners.proofs.row.Statement.{statement}
 use Rattle.corners.proofs.row.Tie as tie
 
 abbrev Inv-loop : tie.InvT-loop
-Inv-loop cs map w h v out₀ start at₀ u₀ out at u =
+Inv-loop cs rows w h v out₀ start at₀ u₀ out at u =
     (u ≤ w + 1)
     × (length out ≡ length out₀)
     × (at ≤ start + 11 * u)
-    × ((t : List ℕ) → map ≡ levelMap t → Acceptable w h t cs
+    × ((t : List ℕ) → rows ≡ levelRows t → Acceptable w h t cs
     → Put (joined u (cornerLine w h t cs v)) start out₀ at out)
 
 abbrev μ-loop : tie.MeasureT-loop
-μ-loop cs map w h v out₀ start at₀ u₀ out at u = w + 1 - u
+μ-loop cs rows w h v out₀ start at₀ u₀ out at u = w + 1 - u
 
 within : (c : tie.Start Inv-loop μ-loop) → let a = c .args in (0 < a .w) × (a .w ≤ 8) × (0 < a .h) × (a .h ≤ 8)
 within c = sides (sound (c .args .w) (c .args .h) (c .pre .1 .0) (c .args .cs .now) (c .pre .1 .2))

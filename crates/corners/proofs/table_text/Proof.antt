@@ -6,6 +6,7 @@ use native.Mathlib.Omega.{arith}
 use lib.ListN.{length}
 use Rattle.surface.proofs.TableLaws.{sound, sides}
 use Rattle.finite.specs.Range.{joined}
+use Rattle.rows.specs.Rows.{levelRows}
 use Rattle.corners.specs.Text.{header, cornerLine}
 use Rattle.corners.specs.Buffers.{Put}
 use Rattle.corners.proofs.CornerLaws.{tree-of}
@@ -14,31 +15,36 @@ use Rattle.corners.proofs.table_text.Statement.{statement}
 use Rattle.corners.proofs.table_text.Tie as tie
 
 abbrev Inv-loop : tie.InvT-loop
-Inv-loop tree cs w h out₀ map at₀ v₀ out at v =
+Inv-loop tree cs w h out₀ rows at₀ v₀ out at v =
     (v ≤ h + 1)
     × (length out ≡ length out₀)
     × (at ≤ at₀ + 99 * v)
     × Put (joined v (λ v. joined (w + 1) (cornerLine w h tree cs v))) at₀ out₀ at out
 
 abbrev μ-loop : tie.MeasureT-loop
-μ-loop tree cs w h out₀ map at₀ v₀ out at v = h + 1 - v
+μ-loop tree cs w h out₀ rows at₀ v₀ out at v = h + 1 - v
 
 within : (c : tie.Start Inv-loop μ-loop) → let a = c .args in (0 < a .w) × (a .w ≤ 8) × (0 < a .h) × (a .h ≤ 8)
 within c = sides (sound (c .args .w) (c .args .h) (c .args .tree .now) (c .args .cs .now) (c .pre .0))
 
-paint-requires : tie.Need-paint-requires Inv-loop μ-loop
-paint-requires c κs =
-    let s = c .before .before in
+regions-requires : tie.Need-regions-requires Inv-loop μ-loop
+regions-requires c κs = let w = within (c .before .before .before) in (w .1, w .3)
+
+-- the rows are those of the tree's levels
+painted : (c : tie.After-regions Inv-loop μ-loop)
+    → c .regions .last .1 .1 .1 .0 ≡ levelRows (c .before .before .before .before .args .tree .now)
+painted c =
+    let s = c .before .before .before .before in
     let a = s .args in
-    (a .w, a .h, tree-of (a .w) (a .h) (a .tree .now) (a .cs .now) (s .pre .0))
+    c .regions .ensures .1 (c .regions .ensures .0 ∙ tree-of (a .w) (a .h) (a .tree .now) (a .cs .now) (s .pre .0))
 
 header-requires : tie.Need-header-requires Inv-loop μ-loop
-header-requires c κs = omega (arith, c .before .before .before .before .pre .1)
+header-requires c κs = omega (arith, c .before .before .before .before .before .pre .1)
 
 loop-holds : tie.Need-loop-holds Inv-loop μ-loop
 loop-holds c =
     let h = c .before .before in
-    let a = h .before .before .before .before .before .args in (
+    let a = h .before .before .before .before .before .before .args in (
       omega arith,
       refl,
       omega arith,
@@ -51,10 +57,10 @@ row-requires c κs =
     let l = c .before .before .before in
     let h = l .before .before .before in
     let p = h .before .before in
-    let s = p .before .before .before in
+    let s = p .before .before .before .before in
     let taken = c .before .before .loop-test .taken in (
       taken,
-      (s .args .tree .now, p .paint .ensures, s .pre .0),
+      (s .args .tree .now, painted p, s .pre .0),
       omega (
         arith,
         taken,
@@ -70,7 +76,7 @@ row-requires c κs =
 add-v : tie.Need-add-v Inv-loop μ-loop
 add-v c =
     let l = c .before .before .before .before .before .before in
-    omega (arith, l .loop .inv .0, within (l .before .before .before .before .before .before .before .before))
+    omega (arith, l .loop .inv .0, within (l .before .before .before .before .before .before .before .before .before))
 
 loop-less : tie.Need-loop-less Inv-loop μ-loop
 loop-less c = omega (arith, c .before .before .before .before .before .loop-test .taken)
@@ -82,7 +88,7 @@ loop-again c =
     let l = turn .before in
     let h = l .before .before .before in
     let p = h .before .before in
-    let s = p .before .before .before in
+    let s = p .before .before .before .before in
     let a = s .args in
     let rows : ℕ → List ℕ = λ v. joined (a .w + 1) (cornerLine (a .w) (a .h) (a .tree .now) (a .cs .now) v) in (
       omega (arith, turn .loop-test .taken),
@@ -90,7 +96,7 @@ loop-again c =
       omega (arith, d .row .ensures .1, l .loop .inv .2),
       put-next (l .loop .v) rows (rows (l .loop .v)) (h .header .result) (h .header .last .0) (l .loop .at)
           (l .loop .out) (d .row .result) (d .row .last .1 .1 .1 .1 .1 .0) (l .loop .inv .3)
-          (d .row .ensures .0 (a .tree .now) (p .paint .ensures) (s .pre .0))
+          (d .row .ensures .0 (a .tree .now) (painted p) (s .pre .0))
           refl,
     )
 
@@ -101,7 +107,7 @@ returns : tie.Need-returns Inv-loop μ-loop
 returns c =
     let l = c .before in
     let h = l .before .before .before in
-    let s = h .before .before .before .before .before in
+    let s = h .before .before .before .before .before .before in
     let a = s .args in
     let rows : ℕ → List ℕ = λ v. joined (a .w + 1) (cornerLine (a .w) (a .h) (a .tree .now) (a .cs .now) v) in
     let all : l .loop .v ≡ a .h + 1 = omega (arith, c .loop-test .left, l .loop .inv .0) in
@@ -120,7 +126,7 @@ table-text-spec =
     (tie.spec
     Inv-loop
     μ-loop
-    paint-requires
+    regions-requires
     header-requires
     loop-holds
     row-requires

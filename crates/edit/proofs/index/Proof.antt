@@ -9,7 +9,7 @@ use mir.Syntax.{w64}
 use mir.Val.{Fits, ofZ, toZ}
 use Rattle.surface.specs.Sheet.{functions}
 use Rattle.surface.specs.Calls.{index}
-use Rattle.activity.proofs.MinimaLaws.{functions-le}
+use Rattle.activity.proofs.WindowLaws.{functions-le}
 use Rattle.edit.proofs.SignedLaws.{index-of, sum-fits, sum-is}
 use Rattle.edit.proofs.index.Statement.{statement}
 use Rattle.edit.proofs.index.Tie as tie

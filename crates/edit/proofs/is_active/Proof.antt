@@ -1,46 +1,39 @@
--- `is_active` is the test `active` under the levels of the map.
-use mathlib.Core.Path.{ap}
-use native.Mathlib.Omega.{arith}
+-- `is_active` is the test `active` under the levels of the rows.
+use mathlib.Core.Path.{refl, ap, _∙_}
 use borrow.Author.Needs.{needs}
-use lib.Dec.{eqb}
-use Rattle.activity.proofs.MinimaLaws.{functions-le}
+use Rattle.surface.specs.Sheet.{functions}
+use Rattle.activity.specs.Marks.{marked}
+use Rattle.activity.proofs.ActiveLaws.{index-fits}
+use Rattle.activity.proofs.WindowLaws.{row-size, eighths-le, eighths-some}
 use Rattle.edit.proofs.is_active.Statement.{statement}
 use Rattle.edit.proofs.is_active.Tie as tie
 
-functions-requires : tie.Need-functions-requires
-functions-requires c κs = search needs
+active-row-requires : tie.Need-active-row-requires
+active-row-requires c κs = search needs
 
-row-minima-requires : tie.Need-row-minima-requires
-row-minima-requires c κs = search needs
+eighths-requires : tie.Need-eighths-requires
+eighths-requires c κs = search needs
 
-support-minima-requires : tie.Need-support-minima-requires
-support-minima-requires c κs =
-    let s = c .before .before .before in
-    let few = functions-le (s .args .h) (s .args .level) (s .pre .2) (s .pre .3) in
-    (s .pre .2, s .pre .3, omega (arith, few, s .pre .5))
-
-array-read-result : tie.Need-array-read-result
-array-read-result c = search needs
-
-cast-result : tie.Need-cast-result
-cast-result c = search needs
+is-marked-requires : tie.Need-is-marked-requires
+is-marked-requires c κs =
+    let s = c .before .before in
+    let a = s .args in
+    let side = c .eighths .ensures in
+    let n = functions (a .w) (a .level) in (
+      index-fits n (a .a) (c .eighths .result)
+          (row-size (a .w) (a .level) n (c .eighths .result) (s .pre .0) (s .pre .2) refl side)
+          (rw side (eighths-some (a .level))) (s .pre .3),
+      rw side (eighths-le (a .level)),
+    )
 
 returns : tie.Need-returns
 returns c =
-    let rows = c .before .before .row-minima in
-    let s = c .before .before .before .before in
-    let a = s .args in
-    ap (λ v. eqb v (a .level))
-    (c .support-minima .ensures .least (a .w) (a .map .now) (s .pre .0) (s .pre .1) (rows .ensures) (a .a)
-    (s .pre .4))
+    let e = c .before in
+    let row = e .before .active-row in
+    let a = e .before .before .args in
+    c .is-marked .ensures
+    ∙ ap (λ e. marked e (row .result) (a .a)) (e .eighths .ensures)
+    ∙ row .ensures (a .a) (e .before .before .pre .3)
 
 pub is-active-spec : {M : Type 1} → statement M
-is-active-spec =
-    tie.close
-    (tie.spec
-    functions-requires
-    row-minima-requires
-    support-minima-requires
-    array-read-result
-    cast-result
-    returns)
+is-active-spec = tie.close (tie.spec active-row-requires eighths-requires is-marked-requires returns)

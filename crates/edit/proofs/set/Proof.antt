@@ -7,7 +7,7 @@ use lib.ListN.{length}
 use mir.Syntax.{w64}
 use mir.ValLaws.{toZ-ofZ}
 use Rattle.surface.specs.Calls.{indexFits, index, setCause}
-use Rattle.activity.proofs.MinimaLaws.{functions-le}
+use Rattle.activity.proofs.WindowLaws.{functions-le}
 use Rattle.coefficients.proofs.Parts.{level-fits, part}
 use Rattle.edit.proofs.SetLaws.{in-part, set-place, set-same, Settable, set-none, set-refused, set-done}
 use Rattle.edit.proofs.set.Statement.{statement}

@@ -8,10 +8,11 @@ use lib.IntN.{ℤ, natAbs}
 use mir.Syntax.{w64}
 use mir.ValLaws.{toZ-ofZ}
 use Rattle.surface.specs.Support.{active}
-use Rattle.surface.specs.Table.{limit, tableCause}
+use Rattle.surface.specs.Table.{levels, limit, tableCause}
 use Rattle.surface.specs.Calls.{indexFits, index, setCause}
-use Rattle.activity.specs.Minima.{levelsOf}
-use Rattle.table.proofs.CauseLaws.{map-least}
+use Rattle.rows.specs.Rows.{levelsOf, levelRows}
+use Rattle.rows.proofs.RowLaws.{rows-nested}
+use Rattle.table.proofs.CauseLaws.{rows-least}
 use Rattle.edit.proofs.SetLaws.{chain, table-none, set-table, set-by}
 use Rattle.edit.proofs.set_cause.Statement.{statement}
 use Rattle.edit.proofs.set_cause.Tie as tie
@@ -30,6 +31,11 @@ none : (c : tie.Else1)
     → let a = c .before .before .before .before .args in 0 ≡ tableCause (a .w) (a .h) (a .t .now) (a .cs .now)
 none c = sym (c .if1 .left) ∙ c .before .check .ensures .0
 
+-- the rows are those of the tree's levels
+painted : (c : tie.Else1)
+    → c .before .check .last .1 .1 .1 .1 .0 ≡ levelRows (c .before .before .before .before .args .t .now)
+painted c = c .before .check .ensures .1 (c .if1 .left)
+
 returns-2 : tie.Need-returns-2
 returns-2 c =
     let a = c .before .before .before .before .before .args in
@@ -38,9 +44,10 @@ returns-2 c =
 
 settable-requires : tie.Need-settable-requires
 settable-requires c κs =
-    let a = c .before .before .before .before .before .before .args in
-    let f = table-none (a .w) (a .h) (a .t .now) (a .cs .now) (none (c .before .before)) in
-    (f .0, f .1, f .3, c .before .if2 .left)
+    let d = c .before .before in
+    let a = d .before .before .before .before .args in
+    let f = table-none (a .w) (a .h) (a .t .now) (a .cs .now) (none d) in
+    (f .1, f .3, c .before .if2 .left, rw (painted d) (rows-nested (levels (a .t .now))))
 
 past-requires : tie.Need-past-requires
 past-requires c κs = search needs
@@ -55,18 +62,18 @@ by c s p e q =
     let checked = level .before .before in
     let start = checked .before .before .before in
     let a = start .args in
-    let map = checked .check .last .1 .1 .1 .1 .0 in
+    let rows = checked .check .last .1 .1 .1 .1 .0 in
     let few = table-none (a .w) (a .h) (a .t .now) (a .cs .now) (none (level .before)) in
     let fit : ℤ → ℤ → Bool = λ i j. indexFits (a .w) (a .level) i && indexFits (a .h) (a .level) j
-    && active (a .w) (a .h) (levelsOf map) (a .level) (index i) (index j) in
+    && active (a .w) (a .h) (levelsOf rows) (a .level) (index i) (index j) in
     set-by (a .w) (a .h) (a .t .now) (a .cs .now) (a .level) (a .i) (a .j) (a .number) false s p (none (level .before))
     (sym (le-ltb 3 (a .level) (level .if2 .left)))
     (sym e
     ∙ c .settable .ensures
     ∙ ap₂ fit (toZ-ofZ w64 (a .i) (start .fits .i)) (toZ-ofZ w64 (a .j) (start .fits .j))
     ∙ ap (λ l. indexFits (a .w) (a .level) (a .i) && indexFits (a .h) (a .level) (a .j) && eqb l (a .level))
-    (map-least (a .w) (a .h) (a .t .now) map (a .level) (index (a .i)) (index (a .j)) (few .1) (few .3)
-    (checked .check .ensures .1 (level .before .if1 .left))))
+    (rows-least (a .w) (a .h) (a .t .now) rows (a .level) (index (a .i)) (index (a .j)) (few .1) (few .3)
+    (painted (level .before))))
     q
 
 -- the number's test

@@ -7,7 +7,7 @@ use mir.Syntax.{w64}
 use mir.ValLaws.{toZ-ofZ}
 use Rattle.surface.specs.Support.{active}
 use Rattle.surface.specs.Calls.{indexFits, index}
-use Rattle.activity.specs.Minima.{levelsOf}
+use Rattle.rows.specs.Rows.{levelsOf}
 use Rattle.edit.proofs.SetLaws.{both-fit, first-off, second-off}
 use Rattle.edit.proofs.settable.Statement.{statement}
 use Rattle.edit.proofs.settable.Tie as tie
@@ -36,13 +36,13 @@ index-requires : tie.Need-index-requires
 index-requires c κs =
     let d = c .before .before in
     let s = d .before .before in
-    (s .pre .1, s .pre .3, sym (d .before .index-fits .ensures) ∙ d .if1 .taken)
+    (s .pre .0, s .pre .2, sym (d .before .index-fits .ensures) ∙ d .if1 .taken)
 
 index-requires-2 : tie.Need-index-requires-2
 index-requires-2 c κs =
     let d = c .before in
     let s = d .before .before .before .before in
-    (s .pre .2, s .pre .3, sym (d .before .index-fits2 .ensures) ∙ d .if2 .taken)
+    (s .pre .1, s .pre .2, sym (d .before .index-fits2 .ensures) ∙ d .if2 .taken)
 
 is-active-requires : tie.Need-is-active-requires
 is-active-requires c κs = search needs
@@ -55,7 +55,7 @@ returns c =
     let e = d .before .before in
     let s = e .before .before in
     let a = s .args in
-    let act : ℕ → ℕ → Bool = λ x y. active (a .w) (a .h) (levelsOf (a .map .now)) (a .level) x y in
+    let act : ℕ → ℕ → Bool = λ x y. active (a .w) (a .h) (levelsOf (a .rows .now)) (a .level) x y in
     both-fit (a .w) (a .h) (a .level) (a .i) (a .j) (act (index (a .i)) (index (a .j)))
     (sym (first-fits (e .before)) ∙ e .if1 .taken) (sym (second-fits (d .before)) ∙ d .if2 .taken)
     (c .is-active .result)

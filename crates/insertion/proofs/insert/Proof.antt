@@ -1,10 +1,9 @@
 -- `insert` gives the outcome of document 01: a refusal with nothing written, or the new table.
 use mathlib.Core.Path.{sym, _∙_}
-use native.Mathlib.Omega.{arith}
 use borrow.Author.Needs.{needs}
 use Rattle.surface.specs.Sheet.{Box}
 use Rattle.insertion.specs.Inserted.{Insertable}
-use Rattle.insertion.proofs.InsertLaws.{allowed, refused-early}
+use Rattle.insertion.proofs.InsertLaws.{refused-early}
 use Rattle.insertion.proofs.insert.Statement.{statement}
 use Rattle.insertion.proofs.insert.Tie as tie
 
@@ -35,17 +34,6 @@ ready c =
     let found = c .before .insert-cause .ensures in
     (found .1 (c .if1 .left), sym (c .if1 .left) ∙ found .0)
 
-cast-insert-box : tie.Need-cast-insert-box
-cast-insert-box c =
-    let e = c .before in
-    let s = e .before .before .before .before .before .before in
-    let a = s .args in
-    omega (
-      arith,
-      allowed (a .w) (a .h) (a .tree .now) (a .cs .now) (boxAt s) (a .level) (a .numbers-out .now)
-          (ready e .1) .level,
-    )
-
 insert-box-requires : tie.Need-insert-box-requires
 insert-box-requires c κs =
     let e = c .before .before .before in
@@ -70,7 +58,6 @@ insert-spec =
     insert-cause-requires
     same-length
     returns
-    cast-insert-box
     insert-box-requires
     same-length-2
     same-length-3

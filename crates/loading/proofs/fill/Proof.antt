@@ -9,7 +9,8 @@ use lib.ListN.{length, drop}
 use Rattle.surface.specs.Table.{slots}
 use Rattle.surface.specs.TableFile.{levelFields, fileContents}
 use Rattle.loading.specs.Judged.{treeIn, lastly}
-use Rattle.loading.proofs.ReadLaws.{tree-length, read-refused, read-done, read-none, fields-hold}
+use Rattle.loading.proofs.FileLaws.{tree-length}
+use Rattle.loading.proofs.ReadLaws.{read-refused, read-done, read-none, file-holds}
 use Rattle.loading.proofs.fill.Statement.{statement}
 use Rattle.loading.proofs.fill.Tie as tie
 
@@ -90,8 +91,7 @@ load-levels-requires c κs =
       fits e .1,
       (
         s .pre .2 .0,
-        fields-hold (a .file .now) (a .end) (a .last) (a .w) (a .h) (s .pre .2 .0) (s .pre .2 .1)
-            (fits e .0),
+        file-holds (a .file .now) (a .end) (a .last) (a .w) (a .h) (s .pre .2 .0) (contents s) (fits e .0),
       ),
     )
 
@@ -115,7 +115,7 @@ returns-2 c =
       done .0,
       written .put .ensures ∙ done .1,
       load .load-levels .ensures numbers
-          (fields-hold (a .file .now) (a .end) (a .last) (a .w) (a .h) numbers (s .pre .2 .1) (fits e .0))
+          (file-holds (a .file .now) (a .end) (a .last) (a .w) (a .h) numbers (contents s) (fits e .0))
           ∙ done .2,
     )
 

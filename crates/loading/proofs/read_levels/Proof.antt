@@ -2,6 +2,7 @@
 use mathlib.Core.Path.{_∙_, subst}
 use borrow.Author.Needs.{needs}
 use Rattle.loading.specs.Judged.{treeIn, Head, inFile, levelsJudged}
+use Rattle.loading.proofs.LevelLaws.{nested}
 use Rattle.loading.proofs.JudgeLaws.{head-same}
 use Rattle.loading.proofs.ReadLaws.{read-declined}
 use Rattle.loading.proofs.read_levels.Statement.{statement}
@@ -20,20 +21,29 @@ wide-requires-2 : tie.Need-wide-requires-2
 wide-requires-2 c κs = search needs
 
 levels-judge-requires : tie.Need-levels-judge-requires
-levels-judge-requires c κs = search needs
+levels-judge-requires c κs =
+    let first = c .before .before in
+    let s = first .before .before .before .before in
+    let a = s .args in
+    let p = s .pre in (
+      rw (first .wide .ensures .0) (p .small-W),
+      rw (c .wide2 .ensures .0) (p .small-H),
+      p .size,
+      nested (treeIn (a .file .now) (a .end)) (a .rows .now) (p .painted),
+    )
 
 -- the fields before the levels, by the sides as they were read
 head : (c : tie.After-levels-judge)
     → let second = c .before in
     let first = second .before .before in
     let a = first .before .before .before .before .args in
-    Head (a .file .now) (a .end) (first .wide .result) (second .wide2 .result) (a .map .now)
+    Head (a .file .now) (a .end) (first .wide .result) (second .wide2 .result) (a .rows .now)
 head c =
     let second = c .before in
     let first = second .before .before in
     let s = first .before .before .before .before in
     let a = s .args in
-    head-same (a .file .now) (a .map .now) (a .end) (first .wide .result) (second .wide2 .result)
+    head-same (a .file .now) (a .rows .now) (a .end) (first .wide .result) (second .wide2 .result)
     (first .wide .ensures .0)
     (second .wide2 .ensures .0) (s .pre)
 

@@ -1,4 +1,4 @@
--- The patch of each level is that of document 01 under the map, and so under the tree that the map was painted from.
+-- The patch of each level is that of document 01 under the rows, and so under the tree that the rows are of.
 use mathlib.Core.Path.{_≡_, _∙_}
 use Prim.Native.Nat.{_-_, _*_, _≤_, _<_}
 use native.Mathlib.Omega.{arith}
@@ -17,7 +17,7 @@ ready : (s : tie.Start)
     → let a = s .args in
     (0 < a .w) × (a .w ≤ 8) × (0 < a .h) × (a .h ≤ 8) × (a .u ≤ 128 * a .w) × (a .v ≤ 128 * a .h)
     × (length (a .cs .now) ≡ slots (a .w) (a .h))
-ready s = let a = s .args in point-ready (a .w) (a .h) (a .map .now) (a .cs .now) (a .u) (a .v) (s .pre)
+ready s = let a = s .args in point-ready (a .w) (a .h) (a .rows .now) (a .cs .now) (a .u) (a .v) (s .pre)
 
 coarsest-requires : tie.Need-coarsest-requires
 coarsest-requires c κs = ready c
@@ -25,21 +25,21 @@ coarsest-requires c κs = ready c
 finer-requires : tie.Need-finer-requires
 finer-requires c κs =
     let a = c .before .args in
-    finer-ready (a .w) (a .h) (a .map .now) (a .cs .now) (a .u) (a .v) (c .before .pre) 1 (c .coarsest .result)
-    (lit< tt) (lit≤ tt) (c .coarsest .ensures (a .map .now))
+    finer-ready (a .w) (a .h) (a .rows .now) (a .cs .now) (a .u) (a .v) (c .before .pre) 1 (c .coarsest .result)
+    (lit< tt) (lit≤ tt) (c .coarsest .ensures (a .rows .now))
 
 finer-requires-2 : tie.Need-finer-requires-2
 finer-requires-2 c κs =
     let s = c .before .before in
     let a = s .args in
-    finer-ready (a .w) (a .h) (a .map .now) (a .cs .now) (a .u) (a .v) (s .pre) 2 (c .finer .result) (lit< tt)
+    finer-ready (a .w) (a .h) (a .rows .now) (a .cs .now) (a .u) (a .v) (s .pre) 2 (c .finer .result) (lit< tt)
     (lit≤ tt) (c .finer .ensures)
 
 finer-requires-3 : tie.Need-finer-requires-3
 finer-requires-3 c κs =
     let s = c .before .before .before in
     let a = s .args in
-    finer-ready (a .w) (a .h) (a .map .now) (a .cs .now) (a .u) (a .v) (s .pre) 3 (c .finer2 .result) (lit< tt)
+    finer-ready (a .w) (a .h) (a .rows .now) (a .cs .now) (a .u) (a .v) (s .pre) 3 (c .finer2 .result) (lit< tt)
     (lit≤ tt) (c .finer2 .ensures)
 
 cell-of-requires : tie.Need-cell-of-requires
@@ -87,7 +87,7 @@ evaluate-requires c κs =
     let a = s .args in (
       omega (arith, left-u c .1),
       omega (arith, left-v c .1),
-      patch-bounded (a .w) (a .h) (a .map .now) (a .cs .now) (a .u) (a .v) (s .pre) 3 8388608000 (d .finer3 .result)
+      patch-bounded (a .w) (a .h) (a .rows .now) (a .cs .now) (a .u) (a .v) (s .pre) 3 8388608000 (d .finer3 .result)
           (lit< tt) (lit≤ tt) (d .finer3 .ensures),
     )
 
@@ -98,7 +98,7 @@ returns c = λ t painted acc.
     let s = d .before .before .before .before in
     let a = s .args in
     toZ-ofZ w64 (c .evaluate .result) (sfits-of (c .evaluate .ok))
-    ∙ reading-of (a .w) (a .h) (a .map .now) (a .cs .now) (a .u) (a .v) (s .pre .0, s .pre .1, (t, painted, acc))
+    ∙ reading-of (a .w) (a .h) (a .rows .now) (a .cs .now) (a .u) (a .v) (s .pre .0, s .pre .1, (t, painted, acc))
     (cells .before .cell-of .result) (cells .cell-of2 .result) (d .finer3 .result) (c .evaluate .result)
     (cells .before .cell-of .ensures .0) (cells .cell-of2 .ensures .0) (d .finer3 .ensures) (c .evaluate .ensures)
 

@@ -19,45 +19,46 @@ region-cause-requires c κs = search needs
 
 returns : tie.Need-returns
 returns c =
-    let s = c .before .before .before in
+    let s = c .before .before .before .before in
     let a = s .args in
     least-region (a .w) (a .h) (a .tree .now) (boxAt s) (c .before .region-cause .result)
-    (c .before .region-cause .ensures) (c .if1 .taken)
+    (c .before .region-cause .ensures .0) (c .if1 .taken)
 
 -- past causes 1 and 2
-none : (c : tie.Else1) → let a = c .before .before .before .args in 0 ≡ regionCause (a .w) (a .h) (a .tree .now)
-none c = sym (c .if1 .left) ∙ c .before .region-cause .ensures
+none : (c : tie.Else1)
+    → let a = c .before .before .before .before .args in 0 ≡ regionCause (a .w) (a .h) (a .tree .now)
+none c = sym (c .if1 .left) ∙ c .before .region-cause .ensures .0
 
 box-cause-requires : tie.Need-box-cause-requires
 box-cause-requires c κs =
-    let a = c .before .before .before .args in
+    let a = c .before .before .before .before .args in
     let sides = region-none (a .w) (a .h) (a .tree .now) (none c) in
     (sides .1, sides .2)
 
 returns-2 : tie.Need-returns-2
 returns-2 c =
     let d = c .before .before in
-    let s = d .before .before .before in
+    let s = d .before .before .before .before in
     let a = s .args in
     least-box (a .w) (a .h) (a .tree .now) (boxAt s) (c .before .box-cause .result) (none d)
     (c .before .box-cause .ensures) (c .if2 .taken)
 
 -- past cause 7
 inside : (c : tie.Else2)
-    → let s = c .before .before .before .before .before in 0 ≡ boxCause (s .args .w) (s .args .h) (boxAt s)
+    → let s = c .before .before .before .before .before .before in 0 ≡ boxCause (s .args .w) (s .args .h) (boxAt s)
 inside c = sym (c .if2 .left) ∙ c .before .box-cause .ensures
 
 least-under-requires : tie.Need-least-under-requires
 least-under-requires c κs =
     let d = c .before .before in
-    let s = d .before .before .before in
+    let s = d .before .before .before .before in
     let a = s .args in
     let sides = region-none (a .w) (a .h) (a .tree .now) (none d) in
     (sides .1, sides .2, sides .3, box-none (a .w) (a .h) (boxAt s) (inside c))
 
-cast-t13 : tie.Need-cast-t13
-cast-t13 c =
-    let s = c .before .before .before .before .before .before .before in
+cast-t15 : tie.Need-cast-t15
+cast-t15 c =
+    let s = c .before .before .before .before .before .before .before .before in
     let a = s .args in
     let u = c .before .least-under in
     let low = least-byte (a .w) (a .h) (a .tree .now) (boxAt s) (u .result .least) (u .result .visited) (u .ensures) in
@@ -66,7 +67,7 @@ cast-t13 c =
 returns-3 : tie.Need-returns-3
 returns-3 c =
     let d = c .before .before .before .before in
-    let s = d .before .before .before in
+    let s = d .before .before .before .before in
     let a = s .args in
     let u = c .before .least-under in
     least-found (a .w) (a .h) (a .tree .now) (boxAt s) (u .result .least) (u .result .visited) (none d)
@@ -81,5 +82,5 @@ least-level-spec =
     box-cause-requires
     returns-2
     least-under-requires
-    cast-t13
+    cast-t15
     returns-3)

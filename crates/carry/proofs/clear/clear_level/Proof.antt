@@ -1,6 +1,6 @@
--- `clear_level` meets its contract: before each turn the rows below b are cleared.
+-- Before each turn the rows below b are cleared.
 use mathlib.Core.Path.{_≡_, sym, _∙_}
-use Prim.Native.Nat.{_+_, _-_, _*_, _≤_, _<_}
+use Prim.Native.Nat.{_≤_, _<_, _+_, _-_, _*_}
 use native.Mathlib.Nat.{le-add-right}
 use native.Mathlib.Omega.{arith}
 use borrow.Author.Needs.{needs}
@@ -8,18 +8,19 @@ use lib.ListN.{length}
 use Rattle.finite.specs.Range.{tableFrom}
 use Rattle.surface.specs.Table.{places}
 use Rattle.activity.proofs.MarkLaws.{rowsWritten, rows-none, rows-next, rows-all}
-use Rattle.coefficients.proofs.Parts.{row-small, row-fits, part-length}
+use Rattle.activity.proofs.WindowLaws.{row-size, eighths-le, eighths-some}
+use Rattle.coefficients.proofs.Parts.{row-fits, part-length}
 use Rattle.carry.specs.Cleared.{levelClearedAt}
 use Rattle.carry.proofs.ClearLaws.{row-cleared}
 use Rattle.carry.proofs.clear.clear_level.Statement.{statement}
 use Rattle.carry.proofs.clear.clear_level.Tie as tie
 
 abbrev Inv-loop : tie.InvT-loop
-Inv-loop part₀ map w h level n m minima b₀ part b =
-    (b ≤ m) × (length part ≡ places w h level) × (part ≡ rowsWritten n b (levelClearedAt w h level map part₀) part₀)
+Inv-loop part₀ rows w h level n m e b₀ part b =
+    (b ≤ m) × (length part ≡ places w h level) × (part ≡ rowsWritten n b (levelClearedAt w h level rows part₀) part₀)
 
 abbrev μ-loop : tie.MeasureT-loop
-μ-loop part₀ map w h level n m minima b₀ part b = m - b
+μ-loop part₀ rows w h level n m e b₀ part b = m - b
 
 functions-requires : tie.Need-functions-requires Inv-loop μ-loop
 functions-requires c κs = search needs
@@ -27,21 +28,21 @@ functions-requires c κs = search needs
 functions-requires-2 : tie.Need-functions-requires-2 Inv-loop μ-loop
 functions-requires-2 c κs = search needs
 
-row-minima-requires : tie.Need-row-minima-requires Inv-loop μ-loop
-row-minima-requires c κs = search needs
+eighths-requires : tie.Need-eighths-requires Inv-loop μ-loop
+eighths-requires c κs = search needs
 
 loop-holds : tie.Need-loop-holds Inv-loop μ-loop
 loop-holds c =
     let columns = c .before .before in
     let s = columns .before in
     let a = s .args in
-    let cleared = levelClearedAt (a .w) (a .h) (a .level) (a .map .now) (a .part .now) in
+    let cleared = levelClearedAt (a .w) (a .h) (a .level) (a .rows .now) (a .part .now) in
     (omega arith, s .pre .4, rows-none (columns .functions .result) cleared (a .part .now))
 
-support-minima-requires : tie.Need-support-minima-requires Inv-loop μ-loop
-support-minima-requires c κs = search needs
+active-row-requires : tie.Need-active-row-requires Inv-loop μ-loop
+active-row-requires c κs = search needs
 
--- a turn's row is inside the part, and its place is small
+-- a turn's row is inside the part
 inside : (c : tie.In-loop Inv-loop μ-loop)
     → let n = c .before .before .before .before .functions .result in
     c .before .loop .b * n + n ≤ length (c .before .loop .part)
@@ -53,23 +54,14 @@ inside c =
     (c .before .loop .part) (columns .functions .ensures .0) (rows .functions2 .ensures .0) (c .loop-test .taken)
     (c .before .loop .inv .1)
 
-small : (c : tie.In-loop Inv-loop μ-loop)
-    → (c .before .loop .b * c .before .before .before .before .functions .result ≤ 4489) × (c .before .loop .b < 67)
-small c =
-    let rows = c .before .before .before in
-    row-small (c .before .loop .b) (rows .functions2 .result) (rows .before .functions .result) (c .loop-test .taken)
-    (rows .functions2 .ensures .1) (rows .before .functions .ensures .1)
-
 mul-from : tie.Need-mul-from Inv-loop μ-loop
-mul-from c = omega (arith, small (c .before .before) .0)
+mul-from c = omega (arith, inside (c .before))
 
 add-to : tie.Need-add-to Inv-loop μ-loop
-add-to c =
-    let d = c .before .before in
-    omega (arith, small d .0, d .before .before .before .before .functions .ensures .1)
+add-to c = omega (arith, inside (c .before))
 
 mul-clear-row : tie.Need-mul-clear-row Inv-loop μ-loop
-mul-clear-row c = omega (arith, small (c .before .before) .0)
+mul-clear-row c = omega (arith, inside (c .before))
 
 sub-clear-row : tie.Need-sub-clear-row Inv-loop μ-loop
 sub-clear-row c = le-add-right _ _
@@ -78,21 +70,26 @@ part-clear-row-start : tie.Need-part-clear-row-start Inv-loop μ-loop
 part-clear-row-start c = le-add-right _ _
 
 part-clear-row-end : tie.Need-part-clear-row-end Inv-loop μ-loop
-part-clear-row-end c = inside (c .before .before)
-
-cast-clear-row : tie.Need-cast-clear-row Inv-loop μ-loop
-cast-clear-row c = search needs
+part-clear-row-end c = inside (c .before)
 
 clear-row-requires : tie.Need-clear-row-requires Inv-loop μ-loop
 clear-row-requires c κs =
-    let turn = c .before .before .before .before in
+    let turn = c .before .before in
+    let side = turn .before .before .eighths in
     let columns = turn .before .before .before .before in
+    let s = columns .before in
+    let a = s .args in
     let n = columns .functions .result in
-    let at-loop = turn .before .loop in
-    omega (arith, part-length (at-loop .b * n) n (at-loop .part) (inside turn), columns .functions .ensures .1)
+    let loop = turn .before .loop in (
+      rw (part-length (loop .b * n) n (loop .part) (inside turn))
+          (row-size (a .w) (a .level) n (side .result) (s .pre .0) (s .pre .2) (columns .functions .ensures .0)
+          (side .ensures)),
+      omega (arith, side .ensures, eighths-some (a .level)),
+      omega (arith, side .ensures, eighths-le (a .level)),
+    )
 
 add-b : tie.Need-add-b Inv-loop μ-loop
-add-b c = omega (arith, small (c .before .before .before .before .before .before) .1)
+add-b c = omega arith
 
 loop-less : tie.Need-loop-less Inv-loop μ-loop
 loop-less c = omega arith
@@ -100,28 +97,24 @@ loop-less c = omega arith
 loop-again : tie.Need-loop-again Inv-loop μ-loop
 loop-again c =
     let called = c .before in
-    let lent = called .before .before in
-    let least = lent .before in
-    let turn = least .before .before in
-    let at-loop = turn .before in
-    let minima = at-loop .before in
-    let columns = minima .before .before in
-    let s = columns .before in
-    let a = s .args in
-    let inv = at-loop .loop .inv in
+    let marks = called .before .before in
+    let turn = marks .before in
+    let loop = turn .before .loop in
+    let side = turn .before .before in
+    let columns = side .before .before in
+    let a = columns .before .args in
     let n = columns .functions .result in
-    let b = at-loop .loop .b in
-    let part = at-loop .loop .part in
+    let b = loop .b in
     let row = called .clear-row .last .0 in
-    let cleared = levelClearedAt (a .w) (a .h) (a .level) (a .map .now) (a .part .now) in
+    let cleared = levelClearedAt (a .w) (a .h) (a .level) (a .rows .now) (a .part .now) in
     let new : row ≡ tableFrom 0 n (λ k. cleared k b) =
     called .clear-row .ensures
-    ∙ row-cleared (a .w) (a .h) (a .level) n b (a .map .now) (minima .row-minima .result)
-    (least .support-minima .result) (a .part .now) part (s .pre .0) (s .pre .1) (columns .functions .ensures .0)
-    (minima .row-minima .ensures) (least .support-minima .ensures) (inside turn) (inv .2) in (
+    ∙ row-cleared (a .w) (a .h) (a .level) n b (side .eighths .result) (a .rows .now) (marks .active-row .result)
+    (a .part .now) (loop .part) (columns .functions .ensures .0) (side .eighths .ensures)
+    (marks .active-row .ensures) (inside turn) (loop .inv .2) in (
       omega (arith, turn .loop-test .taken),
-      rw (inv .1) at (c .part .given .1),
-      rows-next n b (b * n + n - b * n) cleared (a .part .now) part row (inv .2) (omega arith) new,
+      rw (loop .inv .1) at (c .part .given .1),
+      rows-next n b (b * n + n - b * n) cleared (a .part .now) (loop .part) row (loop .inv .2) (omega arith) new,
     )
 
 same-length : tie.Need-same-length Inv-loop μ-loop
@@ -134,7 +127,7 @@ returns c =
     let columns = rows .before in
     let s = columns .before in
     let a = s .args in
-    rows-all (loop .b) (levelClearedAt (a .w) (a .h) (a .level) (a .map .now) (a .part .now)) (a .part .now)
+    rows-all (loop .b) (levelClearedAt (a .w) (a .h) (a .level) (a .rows .now) (a .part .now)) (a .part .now)
     (loop .inv .2) (loop .inv .0) (c .loop-test .left) (columns .functions .ensures .0) (rows .functions2 .ensures .0)
     (s .pre .4)
 
@@ -146,16 +139,15 @@ clear-level-spec =
     μ-loop
     functions-requires
     functions-requires-2
-    row-minima-requires
+    eighths-requires
     loop-holds
-    support-minima-requires
+    active-row-requires
     mul-from
     add-to
     mul-clear-row
     sub-clear-row
     part-clear-row-start
     part-clear-row-end
-    cast-clear-row
     clear-row-requires
     add-b
     loop-less

@@ -7,11 +7,11 @@ use borrow.Author.Needs.{needs}
 use lib.ListN.{length}
 use Rattle.surface.specs.Table.{levels}
 use Rattle.surface.specs.TableFile.{activeCount}
-use Rattle.quadtree.specs.Paint.{levelMap}
+use Rattle.rows.specs.Rows.{levelRows}
 use Rattle.loading.specs.declared.field.Field as F
 use Rattle.loading.specs.Fields.{bodyAt, ends}
 use Rattle.loading.specs.Judged.{inFile, levelJudged}
-use Rattle.loading.proofs.CountLaws.{count-tree}
+use Rattle.loading.proofs.LevelLaws.{count-tree}
 use Rattle.loading.proofs.FieldLaws.{body-length}
 use Rattle.loading.proofs.JudgeLaws.{level-faulty, level-good, level-bad}
 use Rattle.loading.proofs.judge.level_judge.Statement.{statement}
@@ -41,12 +41,12 @@ enum-told c = search needs
 -- the count is that of the tree
 counted : (c : tie.After-active-count)
     → let a = c .before .before .args in
-    (t : List ℕ) → a .map .now ≡ levelMap t → c .active-count .result ≡ activeCount (a .w) (a .h) (levels t)
+    (t : List ℕ) → a .rows .now ≡ levelRows t → c .active-count .result ≡ activeCount (a .w) (a .h) (levels t)
     (a .level)
 counted c t e =
     let s = c .before .before in
     let a = s .args in
-    c .active-count .ensures .0 ∙ count-tree (a .w) (a .h) (a .level) t (a .map .now) (s .pre .1) (s .pre .2) e
+    c .active-count .ensures .0 ∙ count-tree t (a .rows .now) e (a .w) (a .h) (a .level) (s .pre .0) (s .pre .1)
 
 -- the field is whole, and its body has the length of so many numbers
 size : (c : tie.After-f)
@@ -101,7 +101,7 @@ within-requires : tie.Need-within-requires
 within-requires c κs =
     let k = c .before .before in
     let s = k .before .before .before .before .before in
-    (omega (arith, part-size k), s .pre .3)
+    (omega (arith, part-size k), s .pre .2)
 
 returns-2 : tie.Need-returns-2
 returns-2 c =

@@ -7,7 +7,7 @@ use borrow.Author.Needs.{needs}
 use lib.IntN.{ℤ}
 use lib.ListN.{length, drop}
 use Rattle.surface.specs.TableFile.{levelFields}
-use Rattle.quadtree.specs.Paint.{levelMap}
+use Rattle.rows.specs.Rows.{levelRows}
 use Rattle.loading.specs.declared.field.Field as F
 use Rattle.loading.specs.Judged.{inFile, levelJudged}
 use Rattle.loading.proofs.JudgeLaws.{levels-faulty, levels-next, levels-done}
@@ -15,24 +15,24 @@ use Rattle.loading.proofs.judge.levels_judge.Statement.{statement}
 use Rattle.loading.proofs.judge.levels_judge.Tie as tie
 
 abbrev Inv-loop : tie.InvT-loop
-Inv-loop file from map w h at₀ level₀ at level =
+Inv-loop file from rows w h at₀ level₀ at level =
     (level ≤ 4)
     × (at ≤ length file)
-    × ((t : List ℕ) → map ≡ levelMap t
+    × ((t : List ℕ) → rows ≡ levelRows t
     → ((before : List ℤ)
     × (levelFields w h t 4 0 [] (drop from file) ≡ levelFields w h t (4 - level) level before (drop at file))))
 
 abbrev μ-loop : tie.MeasureT-loop
-μ-loop file from map w h at₀ level₀ at level = 4 - level
+μ-loop file from rows w h at₀ level₀ at level = 4 - level
 
 loop-holds : tie.Need-loop-holds Inv-loop μ-loop
-loop-holds c = (omega arith, c .before .pre .3, λ t e. ([], refl))
+loop-holds c = (omega arith, c .before .pre .2, λ t e. ([], refl))
 
 level-judge-requires : tie.Need-level-judge-requires Inv-loop μ-loop
 level-judge-requires c κs =
     let l = c .before in
     let p = l .before .before .pre in
-    (p .0, p .1, p .2, omega (arith, c .loop-test .taken), l .loop .inv .1)
+    (p .0, p .1, omega (arith, c .loop-test .taken), l .loop .inv .1, p .3)
 
 enum-known-f : tie.Need-enum-known-f Inv-loop μ-loop
 enum-known-f c = search needs

@@ -22,7 +22,7 @@ returns c =
     let f = c .before .before in
     let a = f .before .before .args in
     tree-faulty (a .file .now) (f .before .before .pre .0) (f .field-at .result) (f .field-at .ensures .0)
-    (a .map .now)
+    (a .rows .now)
     (c .enum-told .given .0 .0) (c .enum-told .given .1)
 
 -- the field is whole
@@ -35,17 +35,17 @@ size c =
     (c .f .given .0 .0)
     (c .f .given .1) (f .field-at .ensures .1)
 
-sub-formed-map : tie.Need-sub-formed-map
-sub-formed-map c = size (c .before) .0
+sub-regions : tie.Need-sub-regions
+sub-regions c = size (c .before) .0
 
-part-formed-map-start : tie.Need-part-formed-map-start
-part-formed-map-start c = size (c .before) .0
+part-regions-start : tie.Need-part-regions-start
+part-regions-start c = size (c .before) .0
 
-part-formed-map-end : tie.Need-part-formed-map-end
-part-formed-map-end c = size (c .before) .1
+part-regions-end : tie.Need-part-regions-end
+part-regions-end c = size (c .before) .1
 
-formed-map-requires : tie.Need-formed-map-requires
-formed-map-requires c κs =
+regions-requires : tie.Need-regions-requires
+regions-requires c κs =
     let s = c .before .before .before .before .before .before .before in
     let w = good-side _ (s .pre .0 .good-W) in
     let h = good-side _ (s .pre .0 .good-H) in
@@ -60,8 +60,8 @@ returns-2 c =
     let a = s .args in
     tree-good (a .file .now) (s .pre .0) (f .field-at .result) (f .field-at .ensures .0) (k .f .given .0 .0)
     (k .f .given .1) (f .field-at .ensures .1) (a .w) (a .h) (s .pre .1) (s .pre .2) _
-    (sym (m .formed-map .ensures .0) ∙ c .if1 .taken)
-    (m .formed-map .ensures .1 (c .if1 .taken))
+    (sym (m .regions .ensures .0) ∙ c .if1 .taken)
+    (m .regions .ensures .1 (c .if1 .taken))
 
 returns-3 : tie.Need-returns-3
 returns-3 c =
@@ -72,7 +72,7 @@ returns-3 c =
     let a = s .args in
     tree-bad (a .file .now) (s .pre .0) (f .field-at .result) (f .field-at .ensures .0) (k .f .given .0 .0)
     (k .f .given .1) (f .field-at .ensures .1) (a .w) (a .h) (s .pre .1) (s .pre .2)
-    (sym (m .formed-map .ensures .0) ∙ c .if1 .left)
+    (sym (m .regions .ensures .0) ∙ c .if1 .left)
 
 pub tree-judge-spec : {M : Type 1} → statement M
 tree-judge-spec =
@@ -82,9 +82,9 @@ tree-judge-spec =
     enum-known-f
     enum-told
     returns
-    sub-formed-map
-    part-formed-map-start
-    part-formed-map-end
-    formed-map-requires
+    sub-regions
+    part-regions-start
+    part-regions-end
+    regions-requires
     returns-2
     returns-3)

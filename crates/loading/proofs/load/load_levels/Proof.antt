@@ -1,64 +1,69 @@
 -- Before each turn the levels below are loaded, and the fields of the others stand from there on.
-use mathlib.Core.Path.{_≡_, sym, ap, _∙_}
-use mathlib.Core.List.{List}
+use mathlib.Core.Path.{_≡_, refl, sym, ap, _∙_}
 use Prim.Native.Nat.{_+_, _-_, _*_, _≤_}
 use native.Mathlib.Nat.{le-add-right}
 use native.Mathlib.Omega.{arith}
-use lib.IntN.{ℤ}
-use lib.ListN.{length}
-use Rattle.surface.specs.Table.{slots}
+use lib.ListN.{length, drop}
+use Rattle.surface.specs.Table.{levels, slots}
 use Rattle.coefficients.proofs.Parts.{level-fits, part-length}
+use Rattle.tablefile.proofs.FileLaws.{after, coefficientsIn, levelsIn, LevelStands, accepted}
 use Rattle.loading.specs.Fields.{bodyAt}
-use Rattle.loading.specs.Judged.{treeIn, levelsHold}
-use Rattle.loading.proofs.CountLaws.{count-tree}
-use Rattle.loading.proofs.FileLaws.{Loading, loading-none, loading-head, loading-inside, loading-count}
-use Rattle.loading.proofs.FileLaws.{loading-next, loading-done, loaded-tree}
+use Rattle.loading.specs.Levels.{levelLoaded}
+use Rattle.loading.specs.Judged.{treeIn}
+use Rattle.loading.proofs.LevelLaws.{nested, count-tree, loaded-tree}
+use Rattle.loading.proofs.FileLaws.{Below, below-none, below-next, below-all, levels-first}
+use Rattle.loading.proofs.FileLaws.{level-inside, level-body, level-count, level-next}
 use Rattle.loading.proofs.load.load_levels.Statement.{statement}
 use Rattle.loading.proofs.load.load_levels.Tie as tie
 
 abbrev Inv-loop : tie.InvT-loop
-Inv-loop file from map w h numbers₀ at₀ level₀ numbers at level =
+Inv-loop file from rows w h numbers₀ at₀ level₀ numbers at level =
     (level ≤ 4)
     × (length numbers ≡ slots w h)
-    × ((found : List ℤ) → levelsHold file from w h found → Loading file from w h level at numbers₀ numbers found)
+    × (drop at file ≡ after level (levelsIn file))
+    × Below w h level (coefficientsIn w h (treeIn file from) (levelsIn file)) numbers₀ numbers
 
 abbrev μ-loop : tie.MeasureT-loop
-μ-loop file from map w h numbers₀ at₀ level₀ numbers at level = 4 - level
+μ-loop file from rows w h numbers₀ at₀ level₀ numbers at level = 4 - level
 
 loop-holds : tie.Need-loop-holds Inv-loop μ-loop
 loop-holds c =
     let s = c .before in
     let a = s .args in
-    (omega arith, s .pre .1, λ found h. loading-none (a .file .now) (a .from) (a .w) (a .h) (a .numbers .now) found h)
+    let p = s .pre .0 in (
+      omega arith,
+      s .pre .1,
+      levels-first (a .file .now) (a .from) (a .w) (a .h) (s .pre .2 .0) (p .low) (p .size) (s .pre .2 .1),
+      below-none (a .w) (a .h) _ (a .numbers .now),
+    )
 
--- what holds of the levels below
-so-far : (c : tie.In-loop Inv-loop μ-loop)
-    → let s = c .before .before .before in
-    let a = s .args in
-    Loading (a .file .now) (a .from) (a .w) (a .h) (c .before .loop .level) (c .before .loop .at) (a .numbers .now)
-    (c .before .loop .numbers) (s .pre .2 .0)
-so-far c = let p = c .before .before .before .pre .2 in c .before .loop .inv .2 (p .0) (p .1)
+-- the field of a turn's level stands there
+stands : (c : tie.In-loop Inv-loop μ-loop)
+    → let a = c .before .before .before .args in
+    LevelStands (a .w) (a .h) (treeIn (a .file .now) (a .from)) (levelsIn (a .file .now)) (c .before .loop .level)
+stands c =
+    let s = c .before .before .before in
+    accepted (s .args .file .now) _ (s .pre .2 .1) .level (c .before .loop .level) (c .loop-test .taken)
 
--- the field of a turn's level is whole
 head : (c : tie.In-loop Inv-loop μ-loop) → c .before .loop .at + 3 ≤ length
     (c .before .before .before .args .file .now)
 head c =
-    let s = c .before .before .before in
-    let a = s .args in
-    loading-head (a .file .now) (a .from) (a .w) (a .h) (c .before .loop .level) (c .before .loop .at)
-    (a .numbers .now)
-    (c .before .loop .numbers) (s .pre .2 .0) (c .loop-test .taken) (so-far c)
+    let a = c .before .before .before .args in
+    let l = c .before .loop in
+    omega (
+      arith,
+      level-inside (a .file .now) (l .at) (a .w) (a .h) (l .level) (treeIn (a .file .now) (a .from))
+          (levelsIn (a .file .now)) (l .inv .2) (stands c) _ refl,
+    )
 
 inside : (c : tie.After-length-at Inv-loop μ-loop)
     → c .before .before .loop .at + 3 + c .length-at .result ≤ length
     (c .before .before .before .before .args .file .now)
 inside c =
-    let turn = c .before in
-    let s = turn .before .before .before in
-    let a = s .args in
-    loading-inside (a .file .now) (a .from) (a .w) (a .h) (turn .before .loop .level) (turn .before .loop .at)
-    (a .numbers .now) (turn .before .loop .numbers) (s .pre .2 .0) (turn .loop-test .taken) (so-far turn)
-    (c .length-at .result) (c .length-at .ensures .0)
+    let a = c .before .before .before .before .args in
+    let l = c .before .before .loop in
+    level-inside (a .file .now) (l .at) (a .w) (a .h) (l .level) (treeIn (a .file .now) (a .from))
+    (levelsIn (a .file .now)) (l .inv .2) (stands (c .before)) (c .length-at .result) (c .length-at .ensures .0)
 
 -- its part is inside the slice
 level-part : (c : tie.After-places Inv-loop μ-loop)
@@ -119,21 +124,21 @@ load-level-requires c κs =
     let d = c .before .before in
     let l = d .before .before in
     let turn = l .before in
+    let loop = turn .before .loop in
     let s = turn .before .before .before in
     let a = s .args in
-    let p = s .pre .0 in (
-      p .positive,
+    let p = s .pre .0 in
+    let t = treeIn (a .file .now) (a .from) in (
       p .small-W,
       p .small-H,
       omega (arith, turn .loop-test .taken),
-      part-length (d .before .start .result) (d .places .result) (turn .before .loop .numbers) (level-part d)
+      nested t (a .rows .now) (p .painted),
+      part-length (d .before .start .result) (d .places .result) (loop .numbers) (level-part d)
           ∙ d .places .ensures .0,
-      loading-count (a .file .now) (a .from) (a .w) (a .h) (turn .before .loop .level) (turn .before .loop .at)
-          (a .numbers .now) (turn .before .loop .numbers) (s .pre .2 .0) (turn .loop-test .taken) (so-far turn)
-          (l .length-at .result) (l .length-at .ensures .0)
+      level-count (a .file .now) (loop .at) (a .w) (a .h) (loop .level) t (levelsIn (a .file .now)) (loop .inv .2)
+          (stands turn) (l .length-at .result) (l .length-at .ensures .0)
           ∙ ap (λ k. 5 * k)
-          (sym (count-tree (a .w) (a .h) (turn .before .loop .level) (treeIn (a .file .now) (a .from)) (a .map .now)
-          (p .small-W) (p .small-H) (p .painted))),
+          (sym (count-tree t (a .rows .now) (p .painted) (a .w) (a .h) (loop .level) (p .small-W) (p .small-H))),
     )
 
 add-level : tie.Need-add-level Inv-loop μ-loop
@@ -148,21 +153,25 @@ loop-again c =
     let d = called .before .before .before in
     let k = d .before .before in
     let turn = k .before in
+    let loop = turn .before .loop in
     let s = turn .before .before .before in
     let a = s .args in
     let p = s .pre .0 in
-    let loop = turn .before .loop in
-    let end = loop .at + 3 + k .length-at .result in
+    let file = a .file .now in
+    let t = treeIn file (a .from) in
     let new = called .load-level .ensures
-    ∙ loaded-tree (a .w) (a .h) (loop .level) (treeIn (a .file .now) (a .from)) (a .map .now)
-    (bodyAt (a .file .now) (loop .at) end) (p .small-W) (p .small-H) (p .painted) in (
+    ∙ loaded-tree t (a .rows .now) (p .painted) (a .w) (a .h) (loop .level) (p .small-W) (p .small-H)
+    (bodyAt file (loop .at) (loop .at + 3 + k .length-at .result))
+    ∙ ap (levelLoaded (a .w) (a .h) (levels t) (loop .level))
+    (level-body file (loop .at) (a .w) (a .h) (loop .level) t (levelsIn file) (loop .inv .2) (stands turn)
+    (k .length-at .result) (k .length-at .ensures .0)) in (
       omega (arith, turn .loop-test .taken),
       rw (loop .inv .1) at (c .numbers .given .1),
-      λ found h.
-          loading-next (a .file .now) (a .from) (a .w) (a .h) (loop .level) (loop .at) (a .numbers .now)
-          (loop .numbers)
-          found (turn .loop-test .taken) (loop .inv .2 found h) (k .length-at .result) (k .length-at .ensures .0)
-          (d .before .start .result) (d .places .result) _ (d .before .start .ensures .0) (d .places .ensures .0) new,
+      level-next file (loop .at) (a .w) (a .h) (loop .level) t (levelsIn file) (loop .inv .2) (stands turn)
+          (k .length-at .result) (k .length-at .ensures .0),
+      below-next (a .w) (a .h) _ (a .numbers .now) (loop .level) (d .before .start .result) (d .places .result)
+          (loop .numbers) _ (turn .loop-test .taken) (loop .inv .3) (d .before .start .ensures .0)
+          (d .places .ensures .0) new,
     )
 
 same-length : tie.Need-same-length Inv-loop μ-loop
@@ -170,12 +179,12 @@ same-length c = c .before .loop .inv .1 ∙ sym (c .before .before .before .pre 
 
 returns : tie.Need-returns Inv-loop μ-loop
 returns c = λ found h.
-    let l = c .before in
-    let s = l .before .before in
+    let loop = c .before .loop in
+    let s = c .before .before .before in
     let a = s .args in
-    let all : l .loop .level ≡ 4 = omega arith in
-    loading-done (a .file .now) (a .from) (a .w) (a .h) (l .loop .level) (l .loop .at) (a .numbers .now)
-    (l .loop .numbers) found all (s .pre .1) (l .loop .inv .2 found h)
+    let all : loop .level ≡ 4 = omega arith in
+    below-all (a .w) (a .h) _ (a .numbers .now) (loop .level) (loop .numbers) all (s .pre .1) (loop .inv .3)
+    ∙ sym (accepted (a .file .now) _ h .slice)
 
 pub load-levels-spec : {M : Type 1} → statement M
 load-levels-spec =

@@ -1,45 +1,50 @@
 -- Before each turn the places below a are loaded.
-use mathlib.Core.Path.{_≡_, refl, ap, _∙_}
+use mathlib.Core.Path.{_≡_, refl, sym, ap, _∙_}
 use mathlib.Core.Logic.{⊎-elim}
 use Prim.Native.Nat.{_+_, _-_, _*_, _≤_}
 use native.Mathlib.Omega.{arith}
 use borrow.Author.Needs.{sfits-of}
-use borrow.Author.Tests.{eq-eqb, ne-eqb}
-use lib.ListN.{length, getD, length-set}
+use lib.ListN.{length, length-set}
 use mir.Syntax.{w64}
 use mir.Val.{toZ}
 use mir.ValLaws.{toZ-ofZ}
 use Rattle.finite.specs.Range.{count}
 use Rattle.surface.specs.TableFile.{numberAt}
+use Rattle.tablefile.proofs.CountLaws.{count-before}
+use Rattle.activity.specs.Marks.{marked}
+use Rattle.activity.proofs.ActiveLaws.{index-fits}
+use Rattle.activity.proofs.CountLaws.{count-none, count-one, count-same}
 use Rattle.activity.proofs.MarkLaws.{written, written-none, written-more, written-all}
-use Rattle.loading.specs.Levels.{is, rowLoadedAt, rowLoaded}
-use Rattle.loading.proofs.CountLaws.{count-none, next-one, next-same, count-below}
+use Rattle.loading.specs.Levels.{rowLoadedAt, rowLoaded}
 use Rattle.loading.proofs.load.load_row.Statement.{statement}
 use Rattle.loading.proofs.load.load_row.Tie as tie
 
 abbrev Inv-loop : tie.InvT-loop
-Inv-loop body next row₀ least level n at₀ a₀ row at a =
+Inv-loop body next row₀ marks e n at₀ a₀ row at a =
     (a ≤ n)
     × (length row ≡ n)
-    × (at ≡ next + count a (is level least))
-    × (row ≡ written a (rowLoadedAt level least body next) row₀)
+    × (at ≡ next + count a (marked e marks))
+    × (row ≡ written a (rowLoadedAt (marked e marks) body next) row₀)
 
 abbrev μ-loop : tie.MeasureT-loop
-μ-loop body next row₀ least level n at₀ a₀ row at a = n - a
+μ-loop body next row₀ marks e n at₀ a₀ row at a = n - a
 
 loop-holds : tie.Need-loop-holds Inv-loop μ-loop
 loop-holds c =
-    let a = c .before .args in (
+    let a = c .before .args in
+    let p = marked (a .e) (a .marks) in (
       omega arith,
       refl,
-      omega (arith, count-none (is (a .level) (a .least .now))),
-      written-none (rowLoadedAt (a .level) (a .least .now) (a .body .now) (a .next)) (a .row .now),
+      omega (arith, count-none p),
+      written-none (rowLoadedAt p (a .body .now) (a .next)) (a .row .now),
     )
 
-element-copy-out-if1 : tie.Need-element-copy-out-if1 Inv-loop μ-loop
-element-copy-out-if1 c = omega arith
+is-marked-requires : tie.Need-is-marked-requires Inv-loop μ-loop
+is-marked-requires c κs =
+    let s = c .before .before .before in
+    (index-fits (length (s .args .row .now)) (c .before .loop .a) (s .args .e) (s .pre .0) (s .pre .1) (omega arith), s .pre .2)
 
--- the body has a number for an active place
+-- the body has a number for a marked place
 left : (c : tie.Then1 Inv-loop μ-loop)
     → 5 * c .before .before .before .loop .at + 5 ≤ length
     (c .before .before .before .before .before .args .body .now)
@@ -47,11 +52,10 @@ left c =
     let turn = c .before .before in
     let s = turn .before .before .before in
     let a = s .args in
-    let k = turn .before .loop .a in
-    let p = is (a .level) (a .least .now) in
-    let more = count-below (length (a .row .now)) k p (turn .loop-test .taken)
-    (eq-eqb (getD (a .least .now) k 0) (a .level) (c .if1 .taken)) in
-    omega (arith, turn .before .loop .inv .2, s .pre .1, more)
+    let p = marked (a .e) (a .marks) in
+    let more = count-before (length (a .row .now)) p (turn .before .loop .a) (turn .loop-test .taken)
+    (sym (c .before .is-marked .ensures) ∙ c .if1 .taken) in
+    omega (arith, turn .before .loop .inv .2, s .pre .3, more)
 
 number-at-requires : tie.Need-number-at-requires Inv-loop μ-loop
 number-at-requires c κs = left c
@@ -75,26 +79,26 @@ loop-again : tie.Need-loop-again Inv-loop μ-loop
 loop-again c =
     let turn = c .before .before in
     let at-loop = turn .before in
+    let loop = at-loop .loop in
+    let inv = loop .inv in
     let a = at-loop .before .before .args in
-    let k = at-loop .loop .a in
-    let inv = at-loop .loop .inv in
-    let p = is (a .level) (a .least .now) in
-    let f = rowLoadedAt (a .level) (a .least .now) (a .body .now) (a .next) in
-    let here = getD (a .least .now) k 0 in
-    let value : toZ w64 (c .if1 .c) ≡ f k =
+    let p = marked (a .e) (a .marks) in
+    let f = rowLoadedAt p (a .body .now) (a .next) in
+    let tested = c .before .is-marked .ensures in
+    let value : toZ w64 (c .if1 .c) ≡ f (loop .a) =
     ⊎-elim
     (λ w. ap (toZ w64) (w .3)
     ∙ toZ-ofZ w64 (w .1 .result) (sfits-of (w .1 .ok))
-    ∙ rw (eq-eqb here (a .level) (w .0 .taken)) (w .1 .ensures ∙ ap (numberAt (a .body .now)) (inv .2)))
-    (λ w. rw (ne-eqb here (a .level) (w .0 .left)) (ap (toZ w64) (w .2)))
+    ∙ rw (sym tested ∙ w .0 .taken) (w .1 .ensures ∙ ap (numberAt (a .body .now)) (inv .2)))
+    (λ w. rw (sym tested ∙ w .0 .left) (ap (toZ w64) (w .2)))
     (c .if1 .came) in (
       omega arith,
       simp length-set (inv .1),
       ⊎-elim
-          (λ w. w .2 ∙ next-one k (at-loop .loop .at) (a .next) p (inv .2) (eq-eqb here (a .level) (w .0 .taken)))
-          (λ w. w .1 ∙ next-same k (at-loop .loop .at) (a .next) p (inv .2) (ne-eqb here (a .level) (w .0 .left)))
+          (λ w. w .2 ∙ omega (arith, inv .2, count-one (loop .a) _ p refl (sym tested ∙ w .0 .taken)))
+          (λ w. w .1 ∙ omega (arith, inv .2, count-same (loop .a) _ p refl (sym tested ∙ w .0 .left)))
           (c .if1 .came),
-      rw (inv .3) (written-more k f (a .row .now) (toZ w64 (c .if1 .c)) (turn .loop-test .taken) value),
+      rw (inv .3) (written-more (loop .a) f (a .row .now) (toZ w64 (c .if1 .c)) (turn .loop-test .taken) value),
     )
 
 same-length : tie.Need-same-length Inv-loop μ-loop
@@ -104,11 +108,12 @@ returns : tie.Need-returns Inv-loop μ-loop
 returns c =
     let loop = c .before .loop in
     let a = c .before .before .before .args in
+    let p = marked (a .e) (a .marks) in
     let all : loop .a ≡ length (a .row .now) = omega arith in (
       loop .inv .3
-          ∙ written-all (loop .a) (rowLoadedAt (a .level) (a .least .now) (a .body .now) (a .next)) (a .row .now) all
-          ∙ ap (rowLoaded (a .level) (a .least .now) (a .body .now) (a .next)) all,
-      loop .inv .2 ∙ ap (λ n. a .next + count n (is (a .level) (a .least .now))) all,
+          ∙ written-all (loop .a) (rowLoadedAt p (a .body .now) (a .next)) (a .row .now) all
+          ∙ ap (rowLoaded p (a .body .now) (a .next)) all,
+      loop .inv .2 ∙ ap (λ n. a .next + count n p) all,
     )
 
 pub load-row-spec : {M : Type 1} → statement M
@@ -118,7 +123,7 @@ load-row-spec =
     Inv-loop
     μ-loop
     loop-holds
-    element-copy-out-if1
+    is-marked-requires
     number-at-requires
     add-at
     mul-c

@@ -3,7 +3,7 @@ use mathlib.Core.Path.{ap}
 use Prim.Native.Nat.{_*_}
 use native.Mathlib.Omega.{arith}
 use borrow.Author.Needs.{needs}
-use Rattle.activity.proofs.MinimaLaws.{eighths-le}
+use Rattle.activity.proofs.WindowLaws.{eighths-le}
 use Rattle.surface.proofs.SplineWeight.{eighths-pos}
 use Rattle.surface.proofs.SplineCell.{cell-inside}
 use Rattle.point.proofs.PointLaws.{cell-found}

@@ -4,7 +4,7 @@ use Prim.Native.Nat.{_+_, _≤_}
 use native.Mathlib.Omega.{arith}
 use lib.ListN.{length}
 use borrow.Author.Needs.{needs}
-use Rattle.activity.proofs.MinimaLaws.{functions-le}
+use Rattle.activity.proofs.WindowLaws.{functions-le}
 use Rattle.coefficients.proofs.Parts.{level-fits, part-length}
 use Rattle.point.proofs.PointLaws.{rows-fit, level-own}
 use Rattle.point.proofs.own.own.Statement.{statement}

@@ -13,7 +13,7 @@ returns c = λ k l hk hl.
     let two = one .before .before .before .before in
     let three = two .before .before .before .before in
     let a = three .before .before .before .before .args in
-    at-four (λ k x. ChosenRow (a .level) (getD (a .t1) k []) (getD (a .t3) k []) (getD (a .t4) k []) x) []
+    at-four (λ k x. ChosenRow (getD (a .t1) k []) (getD (a .t2) k []) (getD (a .t3) k []) x) []
     (three .choose-row .ensures) (two .choose-row2 .ensures) (one .choose-row3 .ensures) (c .choose-row4 .ensures)
     k hk l hl
 

@@ -1,10 +1,10 @@
 -- Each entry is what the call gives of the numbers that were read.
 use mathlib.Core.Path.{_≡_}
+use mathlib.Core.Bool.{Bool, false, cond}
 use Prim.Native.Nat.{ℕ}
 use lib.IntN.{ℤ, pos}
 use lib.ListN.{getD}
 use borrow.Author.Needs.{needs, sfits-of}
-use Rattle.point.specs.Patches.{chosen}
 use Rattle.point.proofs.PointLaws.{at-four, chosen-read}
 use Rattle.point.proofs.step.choose_row.Statement.{statement}
 use Rattle.point.proofs.step.choose_row.Tie as tie
@@ -15,19 +15,20 @@ returns c =
     let two = one .before .before .before in
     let three = two .before .before .before in
     let a = three .before .before .before .args in
-    let own : ℕ → ℤ = λ l. getD (a .t3) l (pos 0) in
-    let coarse : ℕ → ℤ = λ l. getD (a .t4) l (pos 0) in
-    at-four (λ l z. z ≡ chosen (a .level) (getD (a .t1) l 0) (own l) (coarse l)) (pos 0)
-    (chosen-read (a .level) (getD (a .t1) 0 0) (own 0) (coarse 0) (sfits-of (three .choose .ok))
+    let inside : ℕ → Bool = λ l. getD (a .t1) l false in
+    let own : ℕ → ℤ = λ l. getD (a .t2) l (pos 0) in
+    let coarse : ℕ → ℤ = λ l. getD (a .t3) l (pos 0) in
+    at-four (λ l z. z ≡ cond (inside l) (own l) (coarse l)) (pos 0)
+    (chosen-read (inside 0) (own 0) (coarse 0) (sfits-of (three .choose .ok))
     (sfits-of (three .before .before .choose-arg .given)) (sfits-of (three .before .choose-arg2 .given))
     (three .choose .ensures))
-    (chosen-read (a .level) (getD (a .t1) 1 0) (own 1) (coarse 1) (sfits-of (two .choose2 .ok))
+    (chosen-read (inside 1) (own 1) (coarse 1) (sfits-of (two .choose2 .ok))
     (sfits-of (two .before .before .choose-arg3 .given)) (sfits-of (two .before .choose-arg4 .given))
     (two .choose2 .ensures))
-    (chosen-read (a .level) (getD (a .t1) 2 0) (own 2) (coarse 2) (sfits-of (one .choose3 .ok))
+    (chosen-read (inside 2) (own 2) (coarse 2) (sfits-of (one .choose3 .ok))
     (sfits-of (one .before .before .choose-arg5 .given)) (sfits-of (one .before .choose-arg6 .given))
     (one .choose3 .ensures))
-    (chosen-read (a .level) (getD (a .t1) 3 0) (own 3) (coarse 3) (sfits-of (c .choose4 .ok))
+    (chosen-read (inside 3) (own 3) (coarse 3) (sfits-of (c .choose4 .ok))
     (sfits-of (c .before .before .choose-arg7 .given)) (sfits-of (c .before .choose-arg8 .given))
     (c .choose4 .ensures))
 

@@ -18,7 +18,7 @@ own-requires c κs = search needs
 
 returns : tie.Need-returns
 unfolding patch
-returns c = λ map k l hk hl.
+returns c = λ rows k l hk hl.
     let d = c .before in
     let a = d .before .before .args in
     c .own .ensures k l hk hl

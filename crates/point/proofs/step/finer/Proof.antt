@@ -1,10 +1,10 @@
--- Each entry by its least level, its own coefficient and the subdivided value.
+-- Each entry by its region, its own coefficient and the subdivided value.
 use mathlib.Core.Path.{_∙_}
 use Prim.Native.Nat.{_-_}
 use native.Mathlib.Omega.{arith}
 use borrow.Author.Needs.{needs}
 use Rattle.surface.specs.Table.{coefficients}
-use Rattle.activity.specs.Minima.{levelsOf}
+use Rattle.rows.specs.Rows.{levelsOf}
 use Rattle.patch.specs.Patches.{entry}
 use Rattle.point.proofs.PatchLaws.{next-entry}
 use Rattle.point.proofs.step.finer.Statement.{statement}
@@ -19,11 +19,8 @@ cell-of-requires-2 c κs = search needs
 own-requires : tie.Need-own-requires
 own-requires c κs = search needs
 
-near-least-requires : tie.Need-near-least-requires
-near-least-requires c κs = search needs
-
-cast-choose-all : tie.Need-cast-choose-all
-cast-choose-all c = search needs
+near-region-requires : tie.Need-near-region-requires
+near-region-requires c κs = search needs
 
 subdivide-requires : tie.Need-subdivide-requires
 subdivide-requires c κs = search needs
@@ -40,10 +37,10 @@ returns c = λ k l hk hl.
     let s = cells .before .before in
     let a = s .args in
     c .choose-all .ensures k l hk hl
-    ∙ next-entry (a .w) (a .h) (levelsOf (a .map .now)) (coefficients (a .w) (a .h) (a .cs .now)) (a .u) (a .v)
+    ∙ next-entry (a .w) (a .h) (levelsOf (a .rows .now)) (coefficients (a .w) (a .h) (a .cs .now)) (a .u) (a .v)
     (a .level - 1) (a .level) k l (omega arith) (entry (a .p)) (cells .before .cell-of .result)
     (cells .cell-of2 .result) _ hk hl (cells .before .cell-of .ensures .0) (cells .cell-of2 .ensures .0)
-    (s .pre .10) (near .near-least .ensures k l hk hl) (own .own .ensures k l hk hl)
+    (s .pre .10) (near .near-region .ensures k l hk hl) (own .own .ensures k l hk hl)
     (d .subdivide .ensures k l hk hl)
 
 pub finer-spec : {M : Type 1} → statement M
@@ -53,8 +50,7 @@ finer-spec =
     cell-of-requires
     cell-of-requires-2
     own-requires
-    near-least-requires
-    cast-choose-all
+    near-region-requires
     subdivide-requires
     choose-all-requires
     returns)

@@ -5,7 +5,9 @@ use native.Mathlib.Omega.{arith}
 use borrow.Author.Needs.{needs}
 use borrow.Author.Tests.{eq-eqb, ne-eqb}
 use lib.ListN.{length}
-use Rattle.surface.specs.Table.{slots, regionCause, tableCause}
+use Rattle.surface.specs.Table.{levels, slots, regionCause, tableCause}
+use Rattle.rows.specs.Rows.{levelRows}
+use Rattle.rows.proofs.RowLaws.{rows-nested}
 use Rattle.table.proofs.CauseLaws.{region-none, table, table-by, table-region, limits-flag, zeros-flag}
 use Rattle.table.proofs.cause.check.Statement.{statement}
 use Rattle.table.proofs.cause.check.Tie as tie
@@ -15,27 +17,27 @@ region-cause-requires c κs = search needs
 
 returns : tie.Need-returns
 returns c =
-    let a = c .before .before .before .args in (
+    let a = c .before .before .before .before .args in (
       table-region (a .w) (a .h) (a .t .now) (a .cs .now) (c .before .region-cause .result)
-          (c .before .region-cause .ensures) (c .if1 .taken),
+          (c .before .region-cause .ensures .0) (c .if1 .taken),
       λ e. absurd (c .if1 .taken e),
     )
 
 -- past the first two causes
 none : (c : tie.Else1)
-    → let a = c .before .before .before .args in 0 ≡ regionCause (a .w) (a .h) (a .t .now)
-none c = sym (c .if1 .left) ∙ c .before .region-cause .ensures
+    → let a = c .before .before .before .before .args in 0 ≡ regionCause (a .w) (a .h) (a .t .now)
+none c = sym (c .if1 .left) ∙ c .before .region-cause .ensures .0
 
 start-requires : tie.Need-start-requires
 start-requires c κs =
-    let a = c .before .before .before .args in
+    let a = c .before .before .before .before .args in
     let sides = region-none (a .w) (a .h) (a .t .now) (none c) in
     (sides .1, sides .2, omega arith)
 
 returns-2 : tie.Need-returns-2
 returns-2 c =
     let d = c .before .before in
-    let a = d .before .before .before .args in
+    let a = d .before .before .before .before .args in
     let cs = a .cs .now in
     let other : length cs ≡ slots (a .w) (a .h) → ⊥ = λ e. c .if2 .taken (e ∙ sym (c .before .start .ensures .0)) in (
       table-by (a .w) (a .h) (a .t .now) cs false _ _ (none d) (sym (ne-eqb (length cs) (slots (a .w) (a .h)) other))
@@ -45,22 +47,21 @@ returns-2 c =
 
 -- past the third
 size : (c : tie.Else2)
-    → let a = c .before .before .before .before .before .args in length (a .cs .now) ≡ slots (a .w) (a .h)
+    → let a = c .before .before .before .before .before .before .args in length (a .cs .now) ≡ slots (a .w) (a .h)
 size c = c .if2 .left ∙ c .before .start .ensures .0
 
-paint-requires : tie.Need-paint-requires
-paint-requires c κs =
-    let d = c .before .before in
-    let a = d .before .before .before .args in
-    (a .w, a .h, region-none (a .w) (a .h) (a .t .now) (none d) .3)
+-- the rows are those of the tree's levels
+painted : (c : tie.Else1)
+    → c .before .region-cause .last .1 .1 .1 .0 ≡ levelRows (c .before .before .before .before .args .t .now)
+painted c = c .before .region-cause .ensures .1 (c .if1 .left)
 
 table-faults-requires : tie.Need-table-faults-requires
 table-faults-requires c κs =
-    let e = c .before .before in
+    let e = c .before in
     let d = e .before .before in
-    let a = d .before .before .before .args in
+    let a = d .before .before .before .before .args in
     let sides = region-none (a .w) (a .h) (a .t .now) (none d) in
-    (sides .0, sides .1, sides .2, size e)
+    (sides .1, sides .2, size e, rw (painted d) (rows-nested (levels (a .t .now))))
 
 -- by the flags of the faults
 flagged : (c : tie.After-table-faults) (l z : Bool) → c .table-faults .result .over ≡ not l
@@ -68,18 +69,17 @@ flagged : (c : tie.After-table-faults) (l z : Bool) → c .table-faults .result 
     → let a = c .before .before .before .before .before .before .before .before .args in
     table 0 true l z ≡ tableCause (a .w) (a .h) (a .t .now) (a .cs .now)
 flagged c l z over stray =
-    let painted = c .before .before in
-    let map = painted .paint .result in
-    let e = painted .before in
+    let e = c .before .before in
     let d = e .before .before in
-    let a = d .before .before .before .args in
+    let rows = d .before .region-cause .last .1 .1 .1 .0 in
+    let a = d .before .before .before .before .args in
     let cs = a .cs .now in
     let t = a .t .now in
     let sides = region-none (a .w) (a .h) t (none d) in
     table-by (a .w) (a .h) t cs true l z (none d) (sym (eq-eqb (length cs) (slots (a .w) (a .h)) (size e)))
-    (limits-flag (a .w) (a .h) t cs map (sides .1) (sides .2) (painted .paint .ensures)
+    (limits-flag (a .w) (a .h) t cs rows (sides .1) (sides .2) (painted d)
     (c .table-faults .ensures .limited) over)
-    (zeros-flag (a .w) (a .h) t cs map (sides .1) (sides .2) (painted .paint .ensures)
+    (zeros-flag (a .w) (a .h) t cs rows (sides .1) (sides .2) (painted d)
     (c .table-faults .ensures .zeroed) stray)
 
 returns-3 : tie.Need-returns-3
@@ -94,7 +94,7 @@ returns-4 c =
 returns-5 : tie.Need-returns-5
 returns-5 c = (
   flagged (c .before .before) true true (c .before .if3 .left) (c .if4 .left),
-  λ _. c .before .before .before .before .paint .ensures,
+  λ _. painted (c .before .before .before .before .before .before),
 )
 
 pub check-spec : {M : Type 1} → statement M
@@ -105,7 +105,6 @@ check-spec =
     returns
     start-requires
     returns-2
-    paint-requires
     table-faults-requires
     returns-3
     returns-4

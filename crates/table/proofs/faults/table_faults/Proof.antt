@@ -7,7 +7,7 @@ use native.Mathlib.Omega.{arith}
 use borrow.Author.Needs.{needs}
 use lib.ListN.{length}
 use Rattle.finite.specs.Range.{every}
-use Rattle.activity.specs.Minima.{levelsOf}
+use Rattle.rows.specs.Rows.{levelsOf}
 use Rattle.coefficients.proofs.Parts.{level-fits, part-length}
 use Rattle.table.specs.Faults.{limits, zeros, holdsOn}
 use Rattle.table.proofs.FaultLaws.{none-lost, lost-more, level-lost}
@@ -15,22 +15,22 @@ use Rattle.table.proofs.faults.table_faults.Statement.{statement}
 use Rattle.table.proofs.faults.table_faults.Tie as tie
 
 abbrev Inv-loop : tie.InvT-loop
-Inv-loop cs map w h over₀ stray₀ level₀ over stray level =
+Inv-loop cs rows w h over₀ stray₀ level₀ over stray level =
     (level ≤ 4)
-    × (over ≡ not (every level (λ L. holdsOn limits w h (levelsOf map) cs L)))
-    × (stray ≡ not (every level (λ L. holdsOn zeros w h (levelsOf map) cs L)))
+    × (over ≡ not (every level (λ L. holdsOn limits w h (levelsOf rows) cs L)))
+    × (stray ≡ not (every level (λ L. holdsOn zeros w h (levelsOf rows) cs L)))
 
 abbrev μ-loop : tie.MeasureT-loop
-μ-loop cs map w h over₀ stray₀ level₀ over stray level = 4 - level
+μ-loop cs rows w h over₀ stray₀ level₀ over stray level = 4 - level
 
 loop-holds : tie.Need-loop-holds Inv-loop μ-loop
 loop-holds c = (omega arith, none-lost _, none-lost _)
 
 start-requires : tie.Need-start-requires Inv-loop μ-loop
-start-requires c κs = let p = c .before .before .pre in (p .1, p .2, omega arith)
+start-requires c κs = let p = c .before .before .pre in (p .0, p .1, omega arith)
 
 places-requires : tie.Need-places-requires Inv-loop μ-loop
-places-requires c κs = let p = c .before .before .before .pre in (p .1, p .2, omega arith)
+places-requires c κs = let p = c .before .before .before .pre in (p .0, p .1, omega arith)
 
 add-end : tie.Need-add-end Inv-loop μ-loop
 add-end c = omega (arith, c .before .start .ensures .1, c .places .ensures .1)
@@ -50,7 +50,7 @@ inside : (c : tie.After-places Inv-loop μ-loop)
 inside c =
     let at-loop = c .before .before .before in
     let s = at-loop .before in
-    rw (s .pre .3)
+    rw (s .pre .2)
     (level-fits (s .args .w) (s .args .h) (at-loop .loop .level) (c .before .start .result) (c .places .result)
     (omega (arith, c .before .before .loop-test .taken)) (c .before .start .ensures .0) (c .places .ensures .0))
 
@@ -64,9 +64,9 @@ level-faults-requires c κs =
     let p = s .pre in (
       p .0,
       p .1,
-      p .2,
       omega (arith, d .before .before .loop-test .taken),
       part-length (d .before .start .result) (d .places .result) (s .args .cs .now) (inside d) ∙ d .places .ensures .0,
+      p .3,
     )
 
 either-requires : tie.Need-either-requires Inv-loop μ-loop
@@ -92,7 +92,7 @@ loop-again c =
     let level = at-loop .loop .level in
     let flags = found .level-faults .result in
     let lost = level-lost (a .w) (a .h) level (d .before .start .result) (d .places .result)
-    (levelsOf (a .map .now)) (a .cs .now) (d .before .start .ensures .0) (d .places .ensures .0) in (
+    (levelsOf (a .rows .now)) (a .cs .now) (d .before .start .ensures .0) (d .places .ensures .0) in (
       omega (arith, turn .loop-test .taken),
       lost-more level _ (inv .1) (lost limits (flags .over) (found .level-faults .ensures .limited))
           (c .before .either .ensures),

@@ -1,0 +1,122 @@
+-- Laws of words of bits: words taken together, runs of bits, and the places beside the sheet.
+use mathlib.Core.Path.{_≡_, refl, sym, ap, ap₂, _∙_}
+use mathlib.Core.Bool.{Bool, true, false, cond, _||_}
+use mathlib.Core.List.{List, [], _∷_}
+use mathlib.Core.Logic.{_↔_}
+use Prim.Native.Nat.{ℕ, zero, suc, _+_, _-_, _*_, _/_, _^_, _≤_, _<_, min, max}
+use native.Mathlib.Nat.{add-comm, le-trans}
+use native.Mathlib.Decide.{decLt}
+use native.Mathlib.Omega.{arith}
+use lib.Bits.{bitAnd, bitOr, bitXor, differ}
+use lib.Dec.{eqb, leb, ltb}
+use lib.ListN.{getD}
+use borrow.Author.Tests.{eqb-true, lt-ltb, le-ltb, le-leb, lt-leb}
+use Rattle.finite.specs.Bits.{bit}
+use Rattle.finite.specs.Range.{least, every}
+use Rattle.finite.proofs.Bits.{bit-small, bit-and, bit-or, bit-xor, bit-shr, bit-shl, bit-shl-low}
+use Rattle.finite.proofs.Tests.{every-true}
+use Rattle.surface.specs.Sheet.{quarters}
+use Rattle.surface.proofs.Least.{least-le, le-least}
+use Rattle.activity.specs.Marks.{Common, paddedBit, PaddedTo, Runs, Without}
+
+-- ---- minima of bits
+
+-- one more at the end
+pub least-more : (n : ℕ) (f : ℕ → ℕ) → min (least 1 n f) (f n) ≡ least 1 (n + 1) f
+unfolding least
+least-more n f = let e : n + 1 ≡ suc n = omega arith in rw e refl
+
+-- the least of them is 1 where each is
+pub all-ones : (n : ℕ) (f : ℕ → ℕ) → (1 ≤ least 1 n f) ↔ ((k : ℕ) → k < n → 1 ≤ f k)
+all-ones n f = (λ h k l. le-trans h (least-le 1 n f k l), λ h. le-least 1 n 1 f (omega arith) h)
+
+-- ---- words taken together
+
+pub common-more : (rows : List ℕ) (from i word : ℕ) → from ≤ i → Common rows from i word
+    → Common rows from (i + 1) (bitAnd word (getD rows i 0))
+common-more rows from i word h common q l =
+    let f : ℕ → ℕ = λ k. bit (getD rows (from + k) 0) q in
+    let last : f (i - from) ≡ bit (getD rows i 0) q = ap (λ j. bit (getD rows j 0) q) (omega arith) in
+    let size : i - from + 1 ≡ i + 1 - from = omega arith in
+    bit-and word (getD rows i 0) q
+    ∙ ap₂ min (common q l) (sym last)
+    ∙ least-more (i - from) f
+    ∙ ap (λ n. least 1 n f) size
+
+-- ---- runs
+
+pub run-one : (word : ℕ) → Runs word 1 word
+unfolding least
+run-one word k = let z : k + 0 ≡ k = omega arith in rw z (omega (arith, bit-small word k))
+
+pub run-more : (word n run : ℕ) → Runs word n run → Runs word (n + 1) (bitAnd run (word / 2 ^ n))
+run-more word n run runs k =
+    let f : ℕ → ℕ = λ j. bit word (k + j) in
+    bit-and run (word / 2 ^ n) k
+    ∙ ap₂ min (runs k) (bit-shr word n k ∙ ap (bit word) (add-comm n k))
+    ∙ least-more n f
+
+-- ---- the bits of a word that another lacks
+
+pub without-bit : (word other : ℕ) → Without word other (bitXor word (bitAnd word other))
+without-bit word other k =
+    bit-xor word (bitAnd word other) k
+    ∙ ap (differ (bit word k)) (bit-and word other k)
+    ∙ digit (bit word k) (bit other k) (bit-small word k) (bit-small other k)
+  where
+    digit : (x y : ℕ) → x < 2 → y < 2 → differ x (min x y) ≡ x - y
+    digit zero zero hx hy = refl
+    digit zero (suc zero) hx hy = refl
+    digit (suc zero) zero hx hy = refl
+    digit (suc zero) (suc zero) hx hy = refl
+    digit zero (suc (suc y)) hx hy = absurd (omega arith)
+    digit (suc zero) (suc (suc y)) hx hy = absurd (omega arith)
+    digit (suc (suc x)) y hx hy = absurd (omega arith)
+
+-- ---- the places beside the sheet
+
+unfoldable pub edges : List ℕ
+edges =
+    18446744073709551615
+    ∷ 18446744073708568575
+    ∷ 18446744073692839935
+    ∷ 18446744073441181695
+    ∷ 18446744069414649855
+    ∷ 18446744004990140415
+    ∷ 18446742974197989375
+    ∷ 18446726481523572735
+    ∷ 18446462598732906495
+    ∷ []
+
+-- place k lies beside a sheet of W cells
+abbrev beside : ℕ → ℕ → Bool
+beside W k = ltb k 16 || leb (16 + quarters W) k
+
+edges-right : every 9 (λ W. every 64 (λ k. eqb (bit (getD edges W 0) k) (cond (beside W k) 1 0))) ≡ true
+unfolding edges every bit
+edges-right = refl
+
+edge-bit : (W k : ℕ) → W ≤ 8 → k < 64 → bit (getD edges W 0) k ≡ cond (beside W k) 1 0
+edge-bit W k hW hk =
+    eqb-true (bit (getD edges W 0) k) (cond (beside W k) 1 0)
+    (every-true 64 (λ k. eqb (bit (getD edges W 0) k) (cond (beside W k) 1 0))
+    (every-true 9 (λ W. every 64 (λ k. eqb (bit (getD edges W 0) k) (cond (beside W k) 1 0))) edges-right W (omega arith))
+    k hk)
+
+pub padded-bit : (W word : ℕ) → W ≤ 8 → PaddedTo W word (bitOr (word * 65536) (getD edges W 0))
+padded-bit W word hW k hk =
+    bit-or (word * 65536) (getD edges W 0) k
+    ∙ ap (max (bit (word * 65536) k)) (edge-bit W k hW hk)
+    ∙ go (decLt k 16) (decLt k (16 + quarters W))
+  where
+    small : bit (word * 65536) k < 2
+    small = bit-small (word * 65536) k
+
+    go : Dec (k < 16) → Dec (k < 16 + quarters W)
+        → max (bit (word * 65536) k) (cond (beside W k) 1 0) ≡ paddedBit W word k
+    go (yes l) e = rw (lt-ltb k 16 l) (omega (arith, small))
+    go (no l) (no e) = rw (le-ltb k 16 (omega arith), le-leb (16 + quarters W) k (omega arith)) (omega (arith, small))
+    go (no l) (yes e) =
+        let place : k ≡ 16 + (k - 16) = omega arith in
+        let here : bit (word * 65536) k ≡ bit word (k - 16) = ap (bit (word * 65536)) place ∙ bit-shl word 16 (k - 16) in
+        rw (le-ltb k 16 (omega arith), lt-leb (16 + quarters W) k e) (omega (arith, here))

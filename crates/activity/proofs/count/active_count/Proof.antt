@@ -1,0 +1,113 @@
+-- `active_count` meets its contract: before each turn the active functions of the rows below b are counted.
+use mathlib.Core.Path.{_≡_, _∙_}
+use Prim.Native.Nat.{_-_, _*_, _≤_}
+use native.Mathlib.Omega.{arith}
+use borrow.Author.Needs.{needs}
+use Rattle.finite.specs.Range.{total}
+use Rattle.finite.proofs.Tests.{count-le}
+use Rattle.surface.specs.TableFile.{activeInRow}
+use Rattle.rows.specs.Rows.{levelsOf}
+use Rattle.activity.specs.Marks.{marked}
+use Rattle.activity.proofs.CountLaws.{total-none, total-more, row-count, count-whole}
+use Rattle.activity.proofs.WindowLaws.{row-size, eighths-le, eighths-some}
+use Rattle.activity.proofs.count.active_count.Statement.{statement}
+use Rattle.activity.proofs.count.active_count.Tie as tie
+
+abbrev Inv-loop : tie.InvT-loop
+Inv-loop rows w h level e n m found₀ b₀ found b =
+    (b ≤ m) × (found ≤ 67 * b) × (found ≡ total b (λ r. activeInRow w h (levelsOf rows) level r))
+
+abbrev μ-loop : tie.MeasureT-loop
+μ-loop rows w h level e n m found₀ b₀ found b = m - b
+
+eighths-requires : tie.Need-eighths-requires Inv-loop μ-loop
+eighths-requires c κs = search needs
+
+functions-requires : tie.Need-functions-requires Inv-loop μ-loop
+functions-requires c κs = search needs
+
+functions-requires-2 : tie.Need-functions-requires-2 Inv-loop μ-loop
+functions-requires-2 c κs = search needs
+
+loop-holds : tie.Need-loop-holds Inv-loop μ-loop
+loop-holds c = (omega arith, omega arith, total-none _)
+
+active-row-requires : tie.Need-active-row-requires Inv-loop μ-loop
+active-row-requires c κs =
+    let rows = c .before .before in
+    let pre = rows .before .before .before .pre in
+    (pre .0, pre .1, pre .2, omega (arith, rows .functions2 .ensures .0, c .loop-test .taken), pre .3)
+
+count-row-requires : tie.Need-count-row-requires Inv-loop μ-loop
+count-row-requires c κs =
+    let columns = c .before .before .before .before in
+    let side = columns .before .eighths in
+    let s = columns .before .before in
+    let level = s .args .level in (
+      row-size (s .args .w) level (columns .functions .result) (side .result) (s .pre .0) (s .pre .2)
+          (columns .functions .ensures .0) (side .ensures),
+      omega (arith, side .ensures, eighths-some level),
+      omega (arith, side .ensures, eighths-le level),
+    )
+
+-- the count of a turn's row is small
+few : (c : tie.After-count-row Inv-loop μ-loop) → c .count-row .result ≤ 67
+few c =
+    let columns = c .before .before .before .before .before in
+    let p = marked (columns .before .eighths .result) (c .before .active-row .result) in
+    omega (arith, c .count-row .ensures, count-le (columns .functions .result) p, columns .functions .ensures .1)
+
+add-found : tie.Need-add-found Inv-loop μ-loop
+add-found c = omega (arith, few c, c .before .before .before .before .functions2 .ensures .1)
+
+add-b : tie.Need-add-b Inv-loop μ-loop
+add-b c = omega (arith, c .before .before .before .before .functions2 .ensures .1)
+
+loop-less : tie.Need-loop-less Inv-loop μ-loop
+loop-less c = omega arith
+
+loop-again : tie.Need-loop-again Inv-loop μ-loop
+loop-again c =
+    let marks = c .before .active-row in
+    let turn = c .before .before in
+    let loop = turn .before .loop in
+    let columns = turn .before .before .before in
+    let side = columns .before .eighths in
+    let args = columns .before .before .args in (
+      omega (arith, turn .loop-test .taken),
+      omega (arith, few c),
+      total-more (loop .b) (loop .found) (c .count-row .result) _ (loop .inv .2)
+          (c .count-row .ensures
+          ∙ row-count (args .w) (args .h) (args .level) (columns .functions .result) (loop .b)
+          (levelsOf (args .rows .now)) (side .result) (marks .result) (columns .functions .ensures .0) (side .ensures)
+          (marks .ensures)),
+    )
+
+returns : tie.Need-returns Inv-loop μ-loop
+returns c =
+    let loop = c .before .loop in
+    let rows = c .before .before in
+    let args = rows .before .before .before .args in
+    let all : loop .b ≡ rows .functions2 .result = omega arith in (
+      count-whole (args .w) (args .h) (args .level) (loop .b) _ (levelsOf (args .rows .now))
+          (all ∙ rows .functions2 .ensures .0) (loop .inv .2),
+      omega (arith, rows .functions2 .ensures .1),
+    )
+
+pub active-count-spec : {M : Type 1} → statement M
+active-count-spec =
+    tie.close
+    (tie.spec
+    Inv-loop
+    μ-loop
+    eighths-requires
+    functions-requires
+    functions-requires-2
+    loop-holds
+    active-row-requires
+    count-row-requires
+    add-found
+    add-b
+    loop-less
+    loop-again
+    returns)

@@ -1,0 +1,113 @@
+// The insertion of a box into the regions, by recursion into four children with the box in hand, and the one tree of
+// the new regions, written parent first; four equal leaves are merged on the way back.
+ghost use mathlib.Core.Path.{_≡_};
+ghost use Prim.Native.Nat.{ℕ, _+_, _*_, _^_, _≤_, _<_};
+ghost use lib.ListN.{length};
+ghost use Rattle.quadtree.specs.Visit.{boxOf, boxAt};
+ghost use Rattle.rows.specs.Rows.{levelsOf, Nested};
+ghost use Rattle.regions.specs.Regions.{fourEqual, Joined, BuiltFrom, InsertedFrom, Inserted};
+
+// Whether the four bytes from `at` on are equal.
+fn equal_leaves(out: &[u8; 1365], at: usize) -> bool
+    requires { ⌜ at + 4 ≤ 1365 ⌝ }
+    ensures { λ r. ⌜ r ≡ fourEqual (now (out .entry)) at ⌝ }
+{
+    let l = out[at];
+    if l != out[at + 1] {
+        return false;
+    }
+    if l != out[at + 2] {
+        return false;
+    }
+    l == out[at + 3]
+}
+
+// Joins the four trees that are written from `at + 1` to before `end` as one from `at` on, and returns the position
+// after it.
+fn join(out: &mut [u8; 1365], at: usize, end: usize) -> usize
+    requires { ⌜ (at < end) × (end ≤ 1365) × (length (now out) ≡ 1365) ⌝ }
+    ensures { λ r. ⌜ Joined at end r (now (out .entry)) (now (out .exit)) ⌝ }
+{
+    // A split takes five bytes or more, so that these are four leaves.
+    if end == at + 5 {
+        if equal_leaves(out, at + 1) {
+            out[at] = out[at + 1];
+            return at + 1;
+        }
+    }
+    out[at] = 4;
+    end
+}
+
+// Writes the tree of the square of this side with low corner (x, y) from `at` on, and returns the position after it.
+fn build_from(
+    rows: &[u32; 96],
+    x: usize,
+    y: usize,
+    side: usize,
+    out: &mut [u8; 1365],
+    at: usize,
+) -> usize
+    requires { ⌜ (x + side ≤ 32) × (y + side ≤ 32) × ((k : ℕ) × (side ≡ 2 ^ k))
+        × (3 * at + 4 * (side * side) ≤ 4096) × (length (now out) ≡ 1365) ⌝ }
+    ensures { λ r. ⌜ BuiltFrom x y side (levelsOf (now (rows .entry))) at r (now (out .entry)) (now (out .exit)) ⌝ }
+{
+    if side == 1 {
+        out[at] = rows::level_at(rows, x, y);
+        return at + 1;
+    }
+    let half = side / 2;
+    let p1 = build_from(rows, x, y, half, out, at + 1);
+    let p2 = build_from(rows, x + half, y, half, out, p1);
+    let p3 = build_from(rows, x, y + half, half, out, p2);
+    let end = build_from(rows, x + half, y + half, half, out, p3);
+    join(out, at, end)
+}
+
+// Raises the quarters of the box with these corners that lie in the square of this side with low corner (x, y) to a
+// level, writes the square's new tree from `at` on, and returns the position after it.
+fn insert_from(
+    rows: &mut [u32; 96],
+    x: usize,
+    y: usize,
+    side: usize,
+    corners: &[usize; 4],
+    level: usize,
+    out: &mut [u8; 1365],
+    at: usize,
+) -> usize
+    requires { ⌜ (x + side ≤ 32) × (y + side ≤ 32) × ((k : ℕ) × (side ≡ 2 ^ k))
+        × (3 * at + 4 * (side * side) ≤ 4096) × (length (now out) ≡ 1365) × (level ≤ 3)
+        × (length (now rows) ≡ 96) × Nested (now rows) ⌝ }
+    ensures { λ r. ⌜ InsertedFrom x y side (boxAt (now (corners .entry))) level (now (rows .entry)) (now (rows .exit)) at r
+        (now (out .entry)) (now (out .exit)) ⌝ }
+{
+    if !quadtree::visit::meets(x, y, side, corners) {
+        return build_from(rows, x, y, side, out, at);
+    }
+    if side == 1 {
+        rows::raise_quarter(rows, x, y, level);
+        out[at] = rows::level_at(rows, x, y);
+        return at + 1;
+    }
+    let half = side / 2;
+    let p1 = insert_from(rows, x, y, half, corners, level, out, at + 1);
+    let p2 = insert_from(rows, x + half, y, half, corners, level, out, p1);
+    let p3 = insert_from(rows, x, y + half, half, corners, level, out, p2);
+    let end = insert_from(rows, x + half, y + half, half, corners, level, out, p3);
+    join(out, at, end)
+}
+
+// Inserts a box: the rows become those of the new levels, their tree is written, and its length returned.
+pub fn insert(
+    rows: &mut [u32; 96],
+    a: quadtree::visit::Area,
+    level: usize,
+    out: &mut [u8; 1365],
+) -> usize
+    requires { ⌜ (level ≤ 3) × (length (now rows) ≡ 96) × Nested (now rows) × (length (now out) ≡ 1365) ⌝ }
+    ensures { λ r. ⌜ Inserted (boxOf a) level (now (rows .entry)) (now (rows .exit)) r (now (out .exit)) ⌝ }
+{
+    let corners = [a.u0, a.v0, a.u1, a.v1];
+    insert_from(rows, 0, 0, 32, &corners, level, out, 0)
+}

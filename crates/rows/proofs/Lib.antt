@@ -1,0 +1,4 @@
+pub mod Spans
+pub mod MaskLaws
+pub mod SmallLevels
+pub mod RowLaws

@@ -1,0 +1,77 @@
+-- The faults of one coefficient more, one law for each way through the loop of `row_faults`.
+use mathlib.Core.Path.{_≡_, refl}
+use mathlib.Core.Bool.{Bool, true, false, not, and-true, and-false, or-true}
+use mathlib.Core.List.{List}
+use Prim.Native.Nat.{ℕ, _+_, _<_}
+use native.Mathlib.Numerals.{add-one}
+use native.Mathlib.Omega.{arith}
+use borrow.Author.Tests.{le-leb, lt-leb, eq-eqb, ne-eqb}
+use lib.IntN.{ℤ, pos, natAbs, _-ℤ_}
+use lib.Signed.{ltZ}
+use lib.ListN.{getD}
+use mir.Syntax.{w64}
+use mir.Val.{SFits, ofZ, toZ}
+use Rattle.finite.specs.Range.{every}
+use Rattle.coefficients.proofs.FaultLaws.{zero-of, of-zero, above, below, between}
+use Rattle.table.specs.Faults.{FaultsBelow}
+
+-- ---- a test at each number, at one number more
+
+more : (n : ℕ) (p : ℕ → Bool) {t : Bool} → t ≡ not (every n p) → p n ≡ true → t ≡ not (every (n + 1) p)
+unfolding every
+more n p e q = rw (add-one n, q, and-true (every n p)) e
+
+lost : (n : ℕ) (p : ℕ → Bool) → p n ≡ false → true ≡ not (every (n + 1) p)
+unfolding every
+lost n p q = rw (add-one n, q, and-false (every n p))
+
+-- ---- one coefficient more: 0, passive and not 0, active and past its limit, active and within it
+
+pub none : (m : ℕ) (active : ℕ → Bool) (row : List ℤ) → FaultsBelow 0 m active row false false
+unfolding every
+none m active row = record { limits = refl; zeros = refl }
+
+abbrev coef : List ℤ → ℕ → ℤ
+coef row k = getD row k (pos 0)
+
+module _ {k m : ℕ} {active : ℕ → Bool} {row : List ℤ} {over stray : Bool}
+    (h : FaultsBelow k m active row over stray) (s : SFits w64 (coef row k)) where
+  pub zero-more : ofZ w64 (coef row k) ≡ 0 → FaultsBelow (k + 1) m active row over stray
+  zero-more e =
+      let z : natAbs (coef row k) ≡ 0 = zero-of (coef row k) s e in
+      record {
+        limits = more k _ (h .limits) (rw (le-leb (natAbs (coef row k)) m (omega arith), or-true));
+        zeros = more k _ (h .zeros) (rw (eq-eqb (natAbs (coef row k)) 0 z, or-true));
+      }
+
+  pub stray-more : (ofZ w64 (coef row k) ≡ 0 → ⊥) → active k ≡ false → FaultsBelow (k + 1) m active row over true
+  stray-more z passive =
+      record {
+        limits = more k _ (h .limits) (rw passive);
+        zeros = lost k _ (rw (passive, ne-eqb (natAbs (coef row k)) 0 (λ e. z (of-zero (coef row k) e))));
+      }
+
+  module _ (here : active k ≡ true) {z : ℤ} (e : z ≡ pos m) where
+    past : m < natAbs (coef row k) → FaultsBelow (k + 1) m active row true stray
+    past g =
+        record {
+          limits = lost k _ (rw (here, lt-leb (natAbs (coef row k)) m g));
+          zeros = more k _ (h .zeros) (rw here);
+        }
+
+    pub above-more : ltZ z (toZ w64 (ofZ w64 (coef row k))) ≡ true → FaultsBelow (k + 1) m active row true stray
+    above-more t = past (above s e t)
+
+    module _ (f : SFits w64 (pos 0 -ℤ z)) where
+      pub below-more : ltZ (toZ w64 (ofZ w64 (coef row k))) (toZ w64 (ofZ w64 (pos 0 -ℤ z))) ≡ true
+          → FaultsBelow (k + 1) m active row true stray
+      below-more t = past (below s e f t)
+
+      pub within-more : ltZ z (toZ w64 (ofZ w64 (coef row k))) ≡ false
+          → ltZ (toZ w64 (ofZ w64 (coef row k))) (toZ w64 (ofZ w64 (pos 0 -ℤ z))) ≡ false
+          → FaultsBelow (k + 1) m active row over stray
+      within-more t u =
+          record {
+            limits = more k _ (h .limits) (rw (here, le-leb (natAbs (coef row k)) m (between s e f t u)));
+            zeros = more k _ (h .zeros) (rw here);
+          }
