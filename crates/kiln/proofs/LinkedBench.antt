@@ -22,11 +22,11 @@ past c acc = rw acc ((refl, refl), refl, refl)
 
 whole : LinkedAsPromised 1 1 tableS wholeSheet
 whole =
-    subst (λ o. TableWritten o 0 77 13 (wholeSheet .tree) carriedS) (sym (bench-sheet .inserted .0))
+    subst (λ o. TableWritten o 0 77 13 (wholeSheet .tree) carriedS) (sym (bench-sheet .inserted))
     ((refl, refl), refl, refl)
 
 S-acceptable : Acceptable 1 1 flat S
-S-acceptable = reading-given 1 1 flat S 64 5 (pos 79164837199872000) .0 (bench-sheet .slope) .0
+S-acceptable = reading-given 1 1 flat S 64 5 (pos 79164837199872000) .0 (bench-sheet .slope .0) .0
 
 refined-acceptable : Acceptable 1 1 refined carriedS
 unfolding Kept standing
@@ -47,6 +47,6 @@ linked-bench =
       reads = λ code old n p.
           let half = pos 79164837199872000 in
           let s = linked-demand-three .lists 1 1 tableS benchCalls S-acceptable made .1 64 5 0 code old half old n
-          (number-given half old (sym (bench-sheet .slope))) p in
+          (number-given half old (sym (bench-sheet .slope .0))) p in
           (s .sameCode, s .sameNumerator (s .sameCode));
     }
