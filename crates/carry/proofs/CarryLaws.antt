@@ -3,34 +3,32 @@ use mathlib.Core.Path.{_≡_, refl, sym, ap, ap₂, _∙_, subst}
 use mathlib.Core.Bool.{cond}
 use mathlib.Core.List.{List, _++_}
 use Prim.Native.Nat.{ℕ, zero, suc, _+_, _-_, _*_, _/_, _%_, _^_, _≤_, _<_}
-use native.Mathlib.Nat.{zero-add, mul-one, mul-comm, mul-le-mul-left, mul-le-mul-right, pow-le-pow-right, le-trans}
+use native.Mathlib.Nat.{mul-one, mul-comm, mul-le-mul-left, mul-le-mul-right, pow-le-pow-right, le-trans}
 use native.Mathlib.Numerals.{add-one}
 use native.Mathlib.Omega.{arith}
 use lib.IntN.{ℤ, pos, natAbs, _*ℤ_}
-use lib.ListN.{length, getD, take, drop, length-append, length-take, length-drop, List·getD-append}
-use lib.Seq.{length-take-le, length-front, getD-take, getD-drop}
+use lib.ListN.{length, getD, take, drop, length-append, length-take, length-drop}
+use lib.Seq.{length-take-le, getD-append-add, getD-take, getD-drop}
 use Rattle.finite.specs.Range.{sum2, tableFrom, grid}
 use Rattle.finite.proofs.Sum.{sum-cong, sum2-cong}
-use Rattle.finite.proofs.Table.{table-cong, length-table, getD-table, place-below, place-split}
-use Rattle.finite.proofs.Table.{length-grid, getD-grid}
+use Rattle.finite.proofs.Table.{table-cong, place-below, place-split, length-grid, getD-grid}
 use Rattle.surface.specs.Sheet.{eighths, functions}
 use Rattle.surface.specs.Support.{inRegion}
 use Rattle.surface.specs.Truncation.{weight2}
-use Rattle.surface.specs.Table.{places, start, slots, place, coefficients, limit}
+use Rattle.surface.specs.Table.{places, start, slots, coefficients, limit}
 use Rattle.surface.specs.Carry.{carried}
 use Rattle.surface.specs.Patch.{stencil}
 use Rattle.surface.proofs.Parents.{functions-step}
-use Rattle.surface.proofs.TableLaws.{start-step, start-le, place-before}
+use Rattle.surface.proofs.TableLaws.{start-step, start-le}
 use Rattle.rows.specs.Rows.{levelsOf}
 use Rattle.activity.specs.Marks.{marked, RegionRow}
 use Rattle.activity.specs.declared.Marks.{Marks}
+use Rattle.activity.proofs.MarkLaws.{rowsWritten}
 use Rattle.activity.proofs.WindowLaws.{functions-le}
-use Rattle.coefficients.proofs.Sizes.{starts}
-use Rattle.coefficients.proofs.Parts.{part, part-at, level-fits}
-use Rattle.carry.specs.Carried.{CarriedFit, Within, childOf, childFrom, columnChild, AlongV, rowCarried}
-use Rattle.carry.specs.Carried.{carriedAt, levelCarried, copied}
+use Rattle.carry.specs.Carried.{CarriedFit, Within, childOf, childFrom, columnChild, AlongV, carriedIf}
+use Rattle.carry.specs.Carried.{rowCarried, carriedAt, levelCarried}
 use Rattle.carry.proofs.ChildLaws.{child-cong, two-scale}
-use Rattle.carry.proofs.LevelLaws.{Replaced, replaced, replaced-later, Below, level-more}
+use Rattle.carry.proofs.LevelLaws.{Replaced, replaced, replaced-later, unwritten, Below, level-more}
 
 -- ---- a row
 
@@ -46,28 +44,43 @@ parents-fit W H L b n columns hb =
 pub columns-few : (W L : ℕ) → W ≤ 8 → L < 3 → functions W L ≤ 35
 columns-few W L hW hL = omega (arith, functions-step W L, functions-le W (suc L) hW hL)
 
-pub row-carried : (W H L n b e : ℕ) (rows : List ℕ) (inside : Marks) (own s sums : List ℤ) → n ≡ functions W (L + 1)
+-- what stands in row b, after the coarser level's part s and the rows before it
+pub row-own : (s own two : List ℤ) (f : ℕ → ℕ → ℤ) (first n b k a : ℕ) → length s ≡ first
+    → two ≡ s ++ rowsWritten n b f own → a < k
+    → getD (take k (drop (first + b * n) two)) a (pos 0) ≡ getD own (b * n + a) (pos 0)
+row-own s own two f first n b k a size e h =
+    let there : first + b * n + a ≡ length s + (b * n + a) = omega arith in
+    getD-take k (drop (first + b * n) two) a (pos 0) h
+    ∙ getD-drop (first + b * n) two a (pos 0)
+    ∙ ap₂ (λ l i. getD l i (pos 0)) e there
+    ∙ getD-append-add s (rowsWritten n b f own) (b * n + a) (pos 0)
+    ∙ unwritten (grid n b f) own (b * n) a (pos 0) (length-grid n b f)
+
+pub row-carried : (W H L n b e : ℕ) (rows : List ℕ) (inside : Marks) (s own sums row : List ℤ) → n ≡ functions W (L + 1)
     → e ≡ eighths (L + 1) → RegionRow W H (L + 1) b (L + 1) (levelsOf rows) inside → AlongV (functions W L) b s sums
-    → tableFrom 0 n (rowCarried (marked e inside) (part (b * n) n own) sums)
-    ≡ tableFrom 0 n (λ a. carriedAt W H L rows own s a b)
-row-carried W H L n b e rows inside own s sums columns side found along =
-    table-cong 0 n (rowCarried (marked e inside) (part (b * n) n own) sums) (λ a. carriedAt W H L rows own s a b)
-    (λ k h. same (0 + k) (omega arith))
+    → length row ≡ n → ((a : ℕ) → a < n → getD row a (pos 0) ≡ getD own (b * n + a) (pos 0))
+    → rowCarried (marked e inside) sums row ≡ tableFrom 0 n (λ a. carriedAt W H L rows s own a b)
+row-carried W H L n b e rows inside s own sums row columns side found along size kept =
+    ap (λ k. tableFrom 0 k value) size
+    ∙ table-cong 0 n value (λ a. carriedAt W H L rows s own a b) (λ k h. same (0 + k) (omega arith))
   where
-    same : (a : ℕ) → a < n → rowCarried (marked e inside) (part (b * n) n own) sums a ≡ carriedAt W H L rows own s a b
+    value : ℕ → ℤ
+    value a = carriedIf (marked e inside a) (getD row a (pos 0)) sums a
+
+    same : (a : ℕ) → a < n → value a ≡ carriedAt W H L rows s own a b
     same a h =
         let within : a < functions W (L + 1) = rw columns at h in
         let next : a < functions W (suc L) = subst (λ k. a < functions W k) (add-one L) within in
         let test : marked e inside a ≡ inRegion W H (levelsOf rows) (L + 1) a b =
         ap (λ e. marked e inside a) side ∙ found a within in
-        let kept : getD (part (b * n) n own) a (pos 0) ≡ getD own (b * functions W (L + 1) + a) (pos 0) =
-        part-at (b * n) n own a h ∙ ap (λ k. getD own (b * k + a) (pos 0)) columns in
+        let there : getD row a (pos 0) ≡ getD own (b * functions W (L + 1) + a) (pos 0) =
+        kept a h ∙ ap (λ k. getD own (b * k + a) (pos 0)) columns in
         let sum : childFrom sums (a / 2) 1 a ≡ childOf a (λ i. columnChild s (functions W L) b (a / 2 + i)) =
         sum-cong 3 (λ i. pos (stencil a i) *ℤ getD sums (a / 2 + i * 1) (pos 0))
         (λ i. pos (stencil a i) *ℤ getD sums (a / 2 + i) (pos 0))
         (λ i l. ap (λ k. pos (stencil a i) *ℤ getD sums (a / 2 + k) (pos 0)) (mul-one i))
         ∙ child-cong W L a (λ i. getD sums i (pos 0)) (columnChild s (functions W L) b) next (along .sums) in
-        λ i. cond (test i) (kept i) (sum i)
+        λ i. cond (test i) (there i) (sum i)
 
 -- ---- a level
 
@@ -96,11 +109,11 @@ module _ (W H : ℕ) (rows : List ℕ) (cs : List ℤ) where
       rw same (le-trans (fit L (q .0) (q .1) (omega arith) (q .2) (q .3)) (limit-coarse L hL))
 
   -- the values of the next level are those of the definition
-  pub level-value : (L a b : ℕ) (own s : List ℤ) → Holds L s → a < functions W (L + 1) → b < functions H (L + 1)
+  pub level-value : (L a b : ℕ) (s own : List ℤ) → Holds L s → a < functions W (L + 1) → b < functions H (L + 1)
       → getD own (b * functions W (L + 1) + a) (pos 0) ≡ coefficients W H cs (L + 1) a b
-      → carriedAt W H L rows own s a b ≡ value (L + 1) a b
+      → carriedAt W H L rows s own a b ≡ value (L + 1) a b
   unfolding carried
-  level-value L a b own s h ha hb e =
+  level-value L a b s own h ha hb e =
       let one = add-one L in
       let sum : childOf a (λ i. columnChild s (functions W L) b (a / 2 + i))
       ≡ sum2 (functions W L) (functions H L) (λ c d. weight2 c d a b *ℤ value L c d) =
@@ -115,56 +128,42 @@ module _ (W H : ℕ) (rows : List ℕ) (cs : List ℤ) where
 
   -- ---- all levels
 
-  -- level 0 is copied
-  pub level-zero : (n : ℕ) (out new : List ℤ) → n ≡ places W H 0 → length out ≡ slots W H
-      → new ≡ copied (length (take n out)) (take n cs) → Below 1 W H value (new ++ drop n out) (new ++ drop n out)
-  unfolding coefficients carried
-  level-zero n out new sized whole e =
-      record { size = length-front out new n count ∙ whole; values = go; rest = λ i h. refl }
+  -- the coefficients themselves: level 0 is carried
+  pub level-zero : length cs ≡ slots W H → Below 1 W H value cs cs
+  unfolding carried
+  level-zero size = record { size = size; values = go; rest = λ i h. refl }
     where
-      fits : n ≤ length out
-      fits = omega (arith, start-le W H 1 4 (omega arith), starts W H .1)
-
-      count : length new ≡ length (take n out)
-      count = ap length e ∙ length-table 0 (length (take n out)) (λ i. getD (take n cs) i (pos 0))
-
-      go : (L a b : ℕ) → L < 1 → a < functions W L → b < functions H L
-          → coefficients W H (new ++ drop n out) L a b ≡ value L a b
-      go zero a b h ha hb =
-          let p = place W H 0 a b in
-          let low : p < n = omega (arith, place-before W H 0 1 a b (omega arith) ha hb, starts W H .1) in
-          let within : p < length (take n out) = rw (length-take-le n out fits) low in
-          List·getD-append new (drop n out) (pos 0) p (rw count within)
-          ∙ ap (λ l. getD l p (pos 0)) e
-          ∙ getD-table 0 (length (take n out)) (λ i. getD (take n cs) i (pos 0)) p (pos 0) within
-          ∙ ap (λ k. getD (take n cs) k (pos 0)) (zero-add p)
-          ∙ getD-take n cs p (pos 0) low
+      go : (L a b : ℕ) → L < 1 → a < functions W L → b < functions H L → coefficients W H cs L a b ≡ value L a b
+      go zero a b h ha hb = refl
       go (suc L) a b h ha hb = absurd (omega arith)
 
   -- the parts of level L and of the next one, in a slice whose levels up to L hold their carried values
-  module _ (L from first size : ℕ) (before out : List ℤ) (hL : L < 3) (at-coarse : from ≡ start W H L)
-      (at-own : first ≡ start W H (L + 1)) (sized : size ≡ places W H (L + 1))
-      (below : Below (L + 1) W H value before out) where
+  module _ (L from end : ℕ) (out : List ℤ) (hL : L < 3) (begins : from ≡ start W H L) (ends : end ≡ start W H (L + 2))
+      (below : Below (L + 1) W H value cs out) where
     abbrev pub two : List ℤ
-    two = take (first + size - from) (drop from out)
+    two = take (end - from) (drop from out)
 
-    abbrev pub front : List ℤ
+    abbrev front : List ℤ
     front = take (places W H L) two
 
-    pub front-first : from + places W H L ≡ first
-    front-first = omega (arith, start-step W H L, ap (start W H) (add-one L))
+    pub parts : (from + places W H L ≡ start W H (L + 1)) × (end ≡ start W H (L + 1) + places W H (L + 1))
+    parts = (
+      ap (λ k. k + places W H L) begins ∙ sym (start-step W H L) ∙ ap (start W H) (sym (add-one L)),
+      ends ∙ ap (start W H) (omega arith) ∙ start-step W H (L + 1),
+    )
 
-    pub two-fits : first + size ≤ length out
-    two-fits = rw (below .size) (level-fits W H (L + 1) first size (omega arith) at-own sized)
+    pub two-fits : end ≤ length out
+    two-fits = rw (below .size, ends) (start-le W H (L + 2) 4 (omega arith))
 
     pub two-size : length two ≡ places W H L + places W H (L + 1)
-    two-size = simp (length-take, length-drop) (omega (arith, front-first, two-fits))
+    two-size = simp (length-take, length-drop) (omega (arith, parts, two-fits))
+
+    two-at : (i : ℕ) → i < length two → getD two i (pos 0) ≡ getD out (from + i) (pos 0)
+    two-at i h =
+        getD-take (end - from) (drop from out) i (pos 0) (omega (arith, parts, two-size)) ∙ getD-drop from out i (pos 0)
 
     front-at : (i : ℕ) → i < places W H L → getD front i (pos 0) ≡ getD out (from + i) (pos 0)
-    front-at i h =
-        getD-take (places W H L) two i (pos 0) h
-        ∙ getD-take (first + size - from) (drop from out) i (pos 0) (omega (arith, front-first))
-        ∙ getD-drop from out i (pos 0)
+    front-at i h = getD-take (places W H L) two i (pos 0) h ∙ two-at i (omega (arith, two-size))
 
     front-size : length front ≡ places W H L
     front-size = length-take-le (places W H L) two (omega (arith, two-size))
@@ -181,23 +180,26 @@ module _ (W H : ℕ) (rows : List ℕ) (cs : List ℤ) where
             mul-comm (functions W L) (functions H L),
           ) in
           front-at at low
-          ∙ ap (λ k. getD out (k + at) (pos 0)) at-coarse
+          ∙ ap (λ k. getD out (k + at) (pos 0)) begins
           ∙ below .values L a b (omega arith) ha hb;
     }
 
     -- the level's part is put in its place
-    pub level-carried : (new : List ℤ) → new ≡ levelCarried W H L rows (part first size cs) two
-        → Below (L + 1 + 1) W H value before (take from out ++ (new ++ drop (first + size - from) (drop from out)))
+    pub level-carried : (new : List ℤ) → new ≡ levelCarried W H L rows two
+        → Below (L + 1 + 1) W H value cs (take from out ++ (new ++ drop (end - from) (drop from out)))
     unfolding coefficients
     level-carried new e =
-        level-more W H (L + 1) first value before out g after at-own g-size holds below
-        (replaced-later (pos 0) from first front g out after (omega (arith, front-size, front-first))
+        level-more W H (L + 1) first value cs out g after refl g-size holds below
+        (replaced-later (pos 0) from first front g out after (omega (arith, front-size, parts))
         (λ i h. front-at i (omega (arith, front-size)))
         (subst (λ l. Replaced (pos 0) from l out after) e
-        (replaced (pos 0) from (first + size - from) new out
-        (ap length e ∙ length-append front g ∙ omega (arith, front-size, g-size, front-first))
-        (omega (arith, two-fits, front-first)))))
+        (replaced (pos 0) from (end - from) new out
+        (ap length e ∙ length-append front g ∙ omega (arith, front-size, g-size, parts))
+        (omega (arith, two-fits, parts)))))
       where
+        first : ℕ
+        first = start W H (L + 1)
+
         n : ℕ
         n = functions W (L + 1)
 
@@ -205,21 +207,25 @@ module _ (W H : ℕ) (rows : List ℕ) (cs : List ℤ) where
         m = functions H (L + 1)
 
         own : List ℤ
-        own = part first size cs
+        own = drop (places W H L) two
 
         g : List ℤ
-        g = grid n m (carriedAt W H L rows own front)
+        g = grid n m (carriedAt W H L rows front own)
 
         after : List ℤ
-        after = take from out ++ (new ++ drop (first + size - from) (drop from out))
+        after = take from out ++ (new ++ drop (end - from) (drop from out))
 
         g-size : length g ≡ places W H (L + 1)
-        g-size = length-grid n m (carriedAt W H L rows own front) ∙ mul-comm m n
+        g-size = length-grid n m (carriedAt W H L rows front own) ∙ mul-comm m n
 
         holds : (a b : ℕ) → a < n → b < m → getD g (b * n + a) (pos 0) ≡ value (L + 1) a b
         holds a b ha hb =
             let at : ℕ = b * n + a in
-            let low : at < size = omega (arith, place-below n m a b ha hb, mul-comm n m) in
-            getD-grid n m (carriedAt W H L rows own front) a b (pos 0) ha hb
-            ∙ level-value L a b own front front-holds ha hb
-            (part-at first size cs at low ∙ ap (λ k. getD cs (k + at) (pos 0)) at-own)
+            let low : at < places W H (L + 1) = omega (arith, place-below n m a b ha hb, mul-comm n m) in
+            let there : from + (places W H L + at) ≡ first + at = omega (arith, parts) in
+            getD-grid n m (carriedAt W H L rows front own) a b (pos 0) ha hb
+            ∙ level-value L a b front own front-holds ha hb
+            (getD-drop (places W H L) two at (pos 0)
+            ∙ two-at (places W H L + at) (omega (arith, two-size))
+            ∙ ap (λ k. getD out k (pos 0)) there
+            ∙ below .rest (first + at) (omega arith))

@@ -2,19 +2,22 @@
 use mathlib.Core.Path.{_≡_, refl, sym, ap, _∙_, subst}
 use mathlib.Core.List.{List, _++_, append-assoc}
 use Prim.Native.Nat.{ℕ, _+_, _-_, _*_, _≤_, _<_}
-use native.Mathlib.Nat.{add-zero, mul-comm}
+use native.Mathlib.Nat.{add-zero, zero-add, mul-comm}
 use native.Mathlib.Numerals.{add-one}
 use native.Mathlib.Decide.{decLt}
 use native.Mathlib.Omega.{arith}
 use lib.IntN.{ℤ, pos}
-use lib.ListN.{length, getD, take, drop, length-append, length-take, length-drop, List·getD-append}
-use lib.Seq.{length-take-le, getD-append-add, getD-take, getD-drop, drop-drop, take-append-add, drop-append-add}
+use lib.ListN.{length, getD, set, take, drop, length-append, length-take, length-drop, List·getD-append}
+use lib.Seq.{length-take-le, getD-append-add, getD-take, getD-drop, drop-drop, take-append-add, drop-append-add, ext-getD}
+use mir.Syntax.{w64}
+use mir.Val.{SFits, toZ, ofZ}
+use mir.ValLaws.{toZ-ofZ}
 use Rattle.finite.specs.Range.{tableFrom}
-use Rattle.finite.proofs.Table.{length-table, place-below}
+use Rattle.finite.proofs.Table.{length-table, getD-table, place-below}
 use Rattle.surface.specs.Sheet.{functions}
 use Rattle.surface.specs.Table.{places, start, slots, place, coefficients}
 use Rattle.surface.proofs.TableLaws.{start-step, place-before}
-use Rattle.activity.proofs.MarkLaws.{written}
+use Rattle.activity.proofs.MarkLaws.{written, written-more, written-all}
 
 module _ {A : Type 0} where
   -- ---- a part of a list is replaced
@@ -84,6 +87,13 @@ module _ {A : Type 0} where
           ∙ same j within
           ∙ ap (λ i. getD l i d) (sym there)
 
+  -- the table of a list's elements
+  pub table-self : (l : List A) (d : A) → tableFrom 0 (length l) (λ i. getD l i d) ≡ l
+  table-self l d =
+      let size = length-table 0 (length l) (λ i. getD l i d) in
+      ext-getD d (tableFrom 0 (length l) (λ i. getD l i d)) l size
+      (λ i h. getD-table 0 (length l) (λ i. getD l i d) i d (rw size at h) ∙ ap (λ k. getD l k d) (zero-add i))
+
   -- a list that is written up to place k is as it was from there on
   pub unwritten : (front l : List A) (k i : ℕ) (d : A) → length front ≡ k
       → getD (front ++ drop k l) (k + i) d ≡ getD l (k + i) d
@@ -100,9 +110,29 @@ module _ {A : Type 0} where
       rw (← e, take-append-add s l from, drop-append-add s l from)
       (append-assoc s (take from l) (new ++ drop k (drop from l)))
 
--- the place of a row that is next to be written is as it was
-pub next-unwritten : (a : ℕ) (f : ℕ → ℤ) (l : List ℤ) → getD (written a f l) a (pos 0) ≡ getD l a (pos 0)
-next-unwritten a f l = rw (add-zero a) at (unwritten (tableFrom 0 a f) l a 0 (pos 0) (length-table 0 a f))
+-- ---- a row is written place after place
+
+-- a function of a number that is read, called and stored
+pub through : (g : ℤ → ℤ) {z r : ℤ} → SFits w64 z → SFits w64 r → r ≡ g (toZ w64 (ofZ w64 z)) → toZ w64 (ofZ w64 r) ≡ g z
+through g {z} {r} read made e = toZ-ofZ w64 r made ∙ e ∙ ap g (toZ-ofZ w64 z read)
+
+-- each place by its index and what stood there
+abbrev pub mapped : (ℕ → ℤ → ℤ) → List ℤ → ℕ → ℤ
+mapped f l a = f a (getD l a (pos 0))
+
+-- the next place is as it was
+pub next-mapped : (a : ℕ) (f : ℕ → ℤ → ℤ) (l row : List ℤ) (v : ℤ) → a < length l → row ≡ written a (mapped f l) l
+    → v ≡ f a (getD row a (pos 0)) → set row a v ≡ written (a + 1) (mapped f l) l
+next-mapped a f l row v h e new =
+    let as-it-was : getD row a (pos 0) ≡ getD l a (pos 0) =
+    ap (λ r. getD r a (pos 0)) e
+    ∙ (rw (add-zero a) at (unwritten (tableFrom 0 a (mapped f l)) l a 0 (pos 0) (length-table 0 a (mapped f l)))) in
+    ap (λ r. set r a v) e ∙ written-more a (mapped f l) l v h (new ∙ ap (f a) as-it-was)
+
+-- all places
+pub all-mapped : (a : ℕ) (f : ℕ → ℤ → ℤ) (l row : List ℤ) → a ≡ length l → row ≡ written a (mapped f l) l
+    → row ≡ tableFrom 0 (length l) (mapped f l)
+all-mapped a f l row all e = e ∙ written-all a (mapped f l) l all ∙ ap (λ k. tableFrom 0 k (mapped f l)) all
 
 -- ---- levels
 

@@ -4,7 +4,7 @@ use mathlib.Core.Bool.{Bool, cond}
 use mathlib.Core.List.{List, _++_}
 use Prim.Native.Nat.{ℕ, _+_, _*_, _/_, _≤_, _<_}
 use lib.IntN.{ℤ, pos, natAbs, _*ℤ_}
-use lib.ListN.{length, getD, take}
+use lib.ListN.{length, getD, take, drop}
 use Rattle.finite.specs.Range.{sum, tableFrom, grid}
 use Rattle.surface.specs.Sheet.{functions}
 use Rattle.surface.specs.Support.{inRegion}
@@ -48,22 +48,22 @@ pub record AlongV (n b : ℕ) (s r : List ℤ) : Type 0 where
   pub sums : (c : ℕ) → c < n → getD r c (pos 0) ≡ columnChild s n b c
   pub small : Within midway r
 
--- column a of a row: its own coefficient where a test holds, else the child along u of the sums
-abbrev pub rowCarried : (ℕ → Bool) → List ℤ → List ℤ → ℕ → ℤ
-rowCarried p own sums a = cond (p a) (getD own a (pos 0)) (childFrom sums (a / 2) 1 a)
+-- function a: its own coefficient if a test holds, else the child along u of the sums
+abbrev pub carriedIf : Bool → ℤ → List ℤ → ℕ → ℤ
+carriedIf t own sums a = cond t own (childFrom sums (a / 2) 1 a)
 
--- function (a, b) of level L + 1, from the parts of its own level and of level L
+-- a row with its own coefficients
+abbrev pub rowCarried : (ℕ → Bool) → List ℤ → List ℤ → List ℤ
+rowCarried p sums row = tableFrom 0 (length row) (λ a. carriedIf (p a) (getD row a (pos 0)) sums a)
+
+-- function (a, b) of level L + 1, from the parts of level L and of its own level
 abbrev pub carriedAt : ℕ → ℕ → ℕ → List ℕ → List ℤ → List ℤ → ℕ → ℕ → ℤ
-carriedAt W H L rows own s a b =
+carriedAt W H L rows s own a b =
     cond (inRegion W H (levelsOf rows) (L + 1) a b) (getD own (b * functions W (L + 1) + a) (pos 0))
     (childOf a (λ i. columnChild s (functions W L) b (a / 2 + i)))
 
 -- the part of level L and after it that of level L + 1
-abbrev pub levelCarried : ℕ → ℕ → ℕ → List ℕ → List ℤ → List ℤ → List ℤ
-levelCarried W H L rows own two =
+abbrev pub levelCarried : ℕ → ℕ → ℕ → List ℕ → List ℤ → List ℤ
+levelCarried W H L rows two =
     let s = take (places W H L) two in
-    s ++ grid (functions W (L + 1)) (functions H (L + 1)) (carriedAt W H L rows own s)
-
--- the first n numbers
-abbrev pub copied : ℕ → List ℤ → List ℤ
-copied n s = tableFrom 0 n (λ i. getD s i (pos 0))
+    s ++ grid (functions W (L + 1)) (functions H (L + 1)) (carriedAt W H L rows s (drop (places W H L) two))

@@ -7,14 +7,11 @@ ghost use Rattle.rows.specs.Rows.{Nested};
 ghost use Rattle.activity.specs.Marks.{marked};
 ghost use Rattle.carry.specs.Cleared.{keptIf, rowCleared, levelCleared, Cleared};
 
-// The number if function a is marked, else 0; a 0 needs no look at the mark.
+// The number if function a is marked, else 0.
 fn kept(number: i64, m: activity::Marks, a: usize, e: usize) -> i64
     requires { ⌜ (a * e ≤ 88) × (e ≤ 8) ⌝ }
     ensures { λ r. ⌜ r ≡ keptIf (marked e m a) number ⌝ }
 {
-    if number == 0 {
-        return 0;
-    }
     if activity::is_marked(m, a, e) {
         number
     } else {
@@ -22,7 +19,8 @@ fn kept(number: i64, m: activity::Marks, a: usize, e: usize) -> i64
     }
 }
 
-// Clears one row of a level, whose active functions are marked; a cell's side is e eighths.
+// Clears one row of a level, whose active functions are marked; a cell's side is e eighths. Even and odd functions have
+// words of marks of their own, so they are taken in pairs.
 fn clear_row(row: &mut [i64], m: activity::Marks, e: usize)
     requires { ⌜ (length (now row) * e ≤ 88) × (1 ≤ e) × (e ≤ 8) ⌝ }
     ensures { λ _. ⌜ now (row .exit) ≡ rowCleared (marked e m) (now (row .entry)) ⌝ }
@@ -31,7 +29,12 @@ fn clear_row(row: &mut [i64], m: activity::Marks, e: usize)
     let mut a = 0;
     while a < n {
         row[a] = kept(row[a], m, a, e);
-        a += 1;
+        let next = a + 1;
+        if next == n {
+            return;
+        }
+        row[next] = kept(row[next], m, next, e);
+        a += 2;
     }
 }
 

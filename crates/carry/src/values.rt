@@ -4,14 +4,12 @@
 ghost use mathlib.Core.Path.{_≡_};
 ghost use Prim.Native.Nat.{_+_, _*_, _/_, _%_, _≤_, _<_};
 ghost use lib.ListN.{length, take};
-ghost use Rattle.finite.specs.Range.{tableFrom};
-ghost use Rattle.surface.specs.Sheet.{functions};
 ghost use Rattle.surface.specs.Table.{places, slots};
 ghost use Rattle.patch.specs.Steps.{midway, Small};
 ghost use Rattle.rows.specs.Rows.{Nested};
 ghost use Rattle.activity.specs.Marks.{marked};
 ghost use Rattle.carry.specs.Carried.{CarriedFit, Carries, Within};
-ghost use Rattle.carry.specs.Carried.{childFrom, AlongV, rowCarried, levelCarried, copied};
+ghost use Rattle.carry.specs.Carried.{childFrom, AlongV, carriedIf, rowCarried, levelCarried};
 
 // Child c of its two or three parents: the first stands at a place, each other a step after the one before it.
 fn child(values: &[i64], at: usize, step: usize, c: usize) -> i64
@@ -20,10 +18,13 @@ fn child(values: &[i64], at: usize, step: usize, c: usize) -> i64
     ensures { λ r. ⌜ (r ≡ childFrom (now (values .entry)) at step c)
         × (Within 131072000 (now (values .entry)) → Small r) ⌝ }
 {
+    let x = values[at];
+    let next = at + step;
+    let y = values[next];
     if c % 2 == 0 {
-        return patch::even(values[at], values[at + step]);
+        return patch::even(x, y);
     }
-    patch::odd(values[at], values[at + step], values[at + step + step])
+    patch::odd(x, y, values[next + step])
 }
 
 // The first step of row b's sums, along v: a child for each of the n columns of the coarser level.
@@ -41,34 +42,45 @@ fn along_v(coarse: &[i64], n: usize, b: usize) -> [i64; 35]
     sums
 }
 
-// The carried values of a row, from its old coefficients and the sums along v; the functions whose cut support lies in
-// the region of their level are marked, a cell's side is e eighths.
-fn carry_row(row: &mut [i64], own: &[i64], sums: &[i64; 35], inside: activity::Marks, e: usize)
-    requires { ⌜ (length (now own) ≡ length (now row)) × (length (now row) ≤ 67) × (length (now row) * e ≤ 88)
-        × (1 ≤ e) × (e ≤ 8) × Within midway (now sums) ⌝ }
-    ensures { λ r. ⌜ now (row .exit) ≡ tableFrom 0 (length (now (row .entry)))
-        (rowCarried (marked e inside) (now (own .entry)) (now (sums .entry))) ⌝ }
+// The carried value of function a: its own coefficient if it is marked, else the child along u of the sums along v.
+fn carried(own: i64, sums: &[i64; 35], inside: activity::Marks, a: usize, e: usize) -> i64
+    requires { ⌜ (a < 67) × (a * e ≤ 88) × (e ≤ 8) × Within midway (now sums) ⌝ }
+    ensures { λ r. ⌜ r ≡ carriedIf (marked e inside a) own (now (sums .entry)) a ⌝ }
+{
+    if activity::is_marked(inside, a, e) {
+        return own;
+    }
+    child(sums, a / 2, 1, a)
+}
+
+// Puts the carried values of a row in place of its own coefficients: those functions are marked whose cut support lies
+// in the region of their level; a cell's side is e eighths. Even and odd functions have words of marks of their own,
+// so they are taken in pairs.
+fn carry_row(row: &mut [i64], sums: &[i64; 35], inside: activity::Marks, e: usize)
+    requires { ⌜ (length (now row) ≤ 67) × (length (now row) * e ≤ 88) × (1 ≤ e) × (e ≤ 8)
+        × Within midway (now sums) ⌝ }
+    ensures { λ r. ⌜ now (row .exit) ≡ rowCarried (marked e inside) (now (sums .entry)) (now (row .entry)) ⌝ }
 {
     let n = row.len();
     let mut a = 0;
     while a < n {
-        row[a] = if activity::is_marked(inside, a, e) {
-            own[a]
-        } else {
-            child(sums, a / 2, 1, a)
-        };
-        a += 1;
+        row[a] = carried(row[a], sums, inside, a, e);
+        let next = a + 1;
+        if next == n {
+            return;
+        }
+        row[next] = carried(row[next], sums, inside, next, e);
+        a += 2;
     }
 }
 
-// The carried values of the level after `coarse`, given its part of the old coefficients; `two` is the part of the
-// level `coarse`, which has its carried values, and after it the part that they are put into.
-fn carry_level(two: &mut [i64], own: &[i64], rows: &[u32; 96], w: usize, h: usize, coarse: usize)
-    requires { ⌜ (w ≤ 8) × (h ≤ 8) × (coarse < 3) × Nested (now rows) × (length (now own) ≡ places w h (coarse + 1))
+// The carried values of the level after `coarse`; `two` is the part of the level `coarse`, which has its carried
+// values, and after it the level's own part, which has its own coefficients.
+fn carry_level(two: &mut [i64], rows: &[u32; 96], w: usize, h: usize, coarse: usize)
+    requires { ⌜ (w ≤ 8) × (h ≤ 8) × (coarse < 3) × Nested (now rows)
         × (length (now two) ≡ places w h coarse + places w h (coarse + 1))
         × Within 131072000 (take (places w h coarse) (now two)) ⌝ }
-    ensures { λ r. ⌜ now (two .exit) ≡ levelCarried w h coarse (now (rows .entry)) (now (own .entry))
-        (now (two .entry)) ⌝ }
+    ensures { λ r. ⌜ now (two .exit) ≡ levelCarried w h coarse (now (rows .entry)) (now (two .entry)) ⌝ }
 {
     let level = coarse + 1;
     let columns = coefficients::functions(w, coarse);
@@ -80,11 +92,9 @@ fn carry_level(two: &mut [i64], own: &[i64], rows: &[u32; 96], w: usize, h: usiz
     while b < m {
         let inside = activity::region_row(rows, w, h, level, b, level);
         let sums = along_v(&two[..first], columns, b);
-        let from = b * n;
+        let from = first + b * n;
         let to = from + n;
-        let start = first + from;
-        let end = first + to;
-        carry_row(&mut two[start..end], &own[from..to], &sums, inside, e);
+        carry_row(&mut two[from..to], &sums, inside, e);
         b += 1;
     }
 }
@@ -92,7 +102,7 @@ fn carry_level(two: &mut [i64], own: &[i64], rows: &[u32; 96], w: usize, h: usiz
 // Copies the numbers of a slice into one of the same length.
 fn copy(s: &mut [i64], numbers: &[i64])
     requires { ⌜ length (now numbers) ≡ length (now s) ⌝ }
-    ensures { λ r. ⌜ now (s .exit) ≡ copied (length (now (s .entry))) (now (numbers .entry)) ⌝ }
+    ensures { λ r. ⌜ now (s .exit) ≡ now (numbers .entry) ⌝ }
 {
     let n = s.len();
     let mut i = 0;
@@ -108,15 +118,12 @@ pub fn carry_all(cs: &[i64], rows: &[u32; 96], w: usize, h: usize, out: &mut [i6
         × Nested (now rows) × CarriedFit w h (now rows) (now cs) ⌝ }
     ensures { λ _. ⌜ Carries w h (now (rows .entry)) (now (cs .entry)) (now (out .exit)) ⌝ }
 {
-    let n = coefficients::places(w, h, 0);
-    copy(&mut out[..n], &cs[..n]);
+    copy(out, cs);
     let mut coarse = 0;
     while coarse < 3 {
-        let level = coarse + 1;
         let from = coefficients::start(w, h, coarse);
-        let first = coefficients::start(w, h, level);
-        let end = first + coefficients::places(w, h, level);
-        carry_level(&mut out[from..end], &cs[first..end], rows, w, h, coarse);
+        let end = coefficients::start(w, h, coarse + 2);
+        carry_level(&mut out[from..end], rows, w, h, coarse);
         coarse += 1;
     }
 }

@@ -1,20 +1,22 @@
 -- The active functions of a level by its rows of bits, and its coefficients row by row.
-use mathlib.Core.Path.{_≡_, ap, ap₂, _∙_, fun-ext}
-use mathlib.Core.Bool.{Bool, cond}
+use mathlib.Core.Path.{_≡_, refl, ap, ap₂, _∙_, fun-ext}
+use mathlib.Core.Bool.{Bool, true, false, cond}
 use mathlib.Core.List.{List}
 use Prim.Native.Nat.{ℕ, _+_, _≤_, _<_}
+use native.Mathlib.Nat.{mul-comm}
 use native.Mathlib.Omega.{arith}
 use lib.Dec.{eqb}
 use lib.IntN.{pos}
+use lib.ListN.{replicate}
 use Rattle.finite.specs.Range.{count, total, tableFrom, grid}
-use Rattle.finite.proofs.Table.{table-cong}
+use Rattle.finite.proofs.Table.{table-cong, grid-cong, grid-const}
 use Rattle.finite.proofs.Tests.{count-cong}
 use Rattle.surface.specs.Sheet.{eighths, functions}
 use Rattle.surface.specs.Support.{active}
-use Rattle.surface.specs.Table.{levels}
+use Rattle.surface.specs.Table.{levels, places}
 use Rattle.surface.specs.TableFile.{numberAt, activeInRow, activeCount, activeBefore, loaded}
 use Rattle.surface.proofs.Least.{leastUnder-cong}
-use Rattle.tablefile.proofs.CountLaws.{total-through}
+use Rattle.tablefile.proofs.CountLaws.{total-through, count-before}
 use Rattle.rows.specs.Rows.{levelsOf, Nested, levelRows}
 use Rattle.rows.proofs.RowLaws.{rows-nested, level-rows}
 use Rattle.activity.specs.Marks.{marked, ActiveRow}
@@ -74,3 +76,22 @@ row-loaded W H L n b lev e m body next size side found before =
         ap₂ (λ u k. cond u (numberAt body k) (pos 0)) (test a h)
         (ap₂ _+_ before
         (count-cong a (marked e m) (λ c. active W H lev L c b) (λ k l. test k (omega arith))))
+
+-- a level with no active function
+pub none-loaded : (W H L : ℕ) (lev : ℕ → ℕ → ℕ) (body : List ℕ) → activeCount W H lev L ≡ 0
+    → levelLoaded W H lev L body ≡ replicate (places W H L) (pos 0)
+unfolding activeCount activeInRow
+none-loaded W H L lev body none =
+    grid-cong (functions W L) (functions H L) (λ a b. loaded W H lev L body a b) (λ a b. pos 0)
+    (λ a b ha hb. ap (λ u. cond u (numberAt body (activeBefore W H lev L a b)) (pos 0)) (passive a b ha hb _ refl))
+    ∙ grid-const (functions W L) (functions H L) (pos 0)
+    ∙ ap (λ k. replicate k (pos 0)) (mul-comm (functions H L) (functions W L))
+  where
+    passive : (a b : ℕ) → a < functions W L → b < functions H L → (u : Bool) → active W H lev L a b ≡ u → u ≡ false
+    passive a b ha hb false e = refl
+    passive a b ha hb true e =
+        absurd (omega (
+          arith,
+          total-through (functions H L) (λ r. count (functions W L) (λ c. active W H lev L c r)) b hb,
+          count-before (functions W L) (λ c. active W H lev L c b) a ha e,
+        ))

@@ -2,12 +2,12 @@
 use mathlib.Core.Path.{_≡_, refl, sym, ap, _∙_}
 use mathlib.Core.Bool.{Bool, true, false}
 use mathlib.Core.List.{List}
-use Prim.Native.Nat.{ℕ, zero, suc, _+_, _-_, _*_, _^_, _≤_, _<_}
-use native.Mathlib.Nat.{mul-le-mul-left, pow-le-pow-right}
+use Prim.Native.Nat.{ℕ, suc, _+_, _-_, _*_, _/_, _%_, _^_, _≤_, _<_}
+use native.Mathlib.Nat.{mul-le-mul-left, pow-le-pow-right, mod-lt}
 use native.Mathlib.Decide.{decLt}
 use native.Mathlib.Numerals.{add-one}
 use native.Mathlib.Omega.{arith}
-use borrow.Author.Tests.{lt-ltb, le-ltb, le-leb, lt-leb}
+use borrow.Author.Tests.{lt-ltb, le-ltb, leb-true, le-leb}
 use lib.Dec.{leb}
 use lib.IntN.{ℤ, pos, negsuc, natAbs, _-ℤ_}
 use lib.ListN.{getD}
@@ -15,9 +15,9 @@ use mir.Syntax.{w64}
 use mir.Val.{SFits, ofZ, toZ}
 use mir.ValLaws.{toZ-pos, toZ-ofZ}
 use Rattle.finite.specs.Range.{every}
-use Rattle.finite.proofs.Tests.{every-true}
+use Rattle.finite.proofs.Tests.{same-test, every-true}
 use Rattle.surface.specs.Table.{limit}
-use Rattle.surface.specs.TableFile.{unsignedAt, numberAt, allWithin}
+use Rattle.surface.specs.TableFile.{unsignedAt, twosComplement, numberAt, allWithin}
 
 -- five bytes from two pairs and one
 pub five-bytes : (b : List ℕ) (k at high middle low n : ℕ) → at ≡ 5 * k
@@ -28,77 +28,96 @@ five-bytes b k at high middle low n e p q r s =
     let third : getD b (at + 2 + 1) 0 ≡ getD b (at + 3) 0 = ap (λ i. getD b i 0) (omega arith) in
     rw (← e) (omega (arith, third))
 
--- ---- two's complement
+-- ---- two's complement: half the range is added, the sum cut to the range, and half the range taken away
 
-pub not-negative : (b : List ℕ) (k n : ℕ) → n ≡ unsignedAt b k → n < 549755813888 → toZ w64 n ≡ numberAt b k
-not-negative b k n e h = toZ-pos w64 n (omega arith) ∙ rw (← e, lt-ltb n (2 ^ 39) h)
+pub less-fits : (y m : ℕ) → 1 ≤ m → m ≤ 4611686018427387904 → SFits w64 (toZ w64 (y % m) -ℤ pos 549755813888)
+less-fits y m some h =
+    let x : y % m < m = mod-lt y some in
+    rw (toZ-pos w64 (y % m) (omega arith)) (go (decLt (y % m) 549755813888))
+  where
+    go : Dec (y % m < 549755813888) → SFits w64 (pos (y % m) -ℤ pos 549755813888)
+    go (yes l) = rw (lt-ltb (y % m) 549755813888 l) (record { sfits = omega arith })
+    go (no l) = rw (le-ltb (y % m) 549755813888 (omega arith)) (record { sfits = omega (arith, mod-lt y some) })
 
-below-zero : (k : ℕ) → negsuc 0 -ℤ pos k ≡ negsuc k
-below-zero zero = refl
-below-zero (suc k) = ap negsuc (omega arith)
+shifted : (n : ℕ) → n < 1099511627776
+    → pos ((n + 549755813888) % 1099511627776) -ℤ pos 549755813888 ≡ twosComplement n
+shifted n h = go (decLt n 549755813888)
+  where
+    go : Dec (n < 549755813888) → pos ((n + 549755813888) % 1099511627776) -ℤ pos 549755813888 ≡ twosComplement n
+    go (yes l) =
+        let r : (n + 549755813888) % 1099511627776 ≡ n + 549755813888 = omega arith in
+        rw (r, lt-ltb n 549755813888 l, le-ltb (n + 549755813888) 549755813888 (omega arith)) (ap pos (omega arith))
+    go (no l) =
+        let r : (n + 549755813888) % 1099511627776 ≡ n - 549755813888 = omega arith in
+        rw (r, le-ltb n 549755813888 (omega arith), lt-ltb (n - 549755813888) 549755813888 (omega arith))
+        (ap negsuc (omega arith))
 
-difference : (n : ℕ) → negsuc 0 -ℤ toZ w64 (1099511627775 - n) ≡ negsuc (1099511627775 - n)
-difference n =
-    ap (λ z. negsuc 0 -ℤ z) (toZ-pos w64 (1099511627775 - n) (omega arith)) ∙ below-zero (1099511627775 - n)
-
-pub negative-fits : (n : ℕ) → SFits w64 (negsuc 0 -ℤ toZ w64 (1099511627775 - n))
-negative-fits n = rw (difference n) (record { sfits = omega arith })
-
-pub negative : (b : List ℕ) (k n : ℕ) → n ≡ unsignedAt b k → 549755813888 ≤ n
-    → toZ w64 (ofZ w64 (negsuc 0 -ℤ toZ w64 (1099511627775 - n))) ≡ numberAt b k
-negative b k n e h =
-    toZ-ofZ w64 _ (negative-fits n) ∙ difference n ∙ rw (← e, le-ltb n (2 ^ 39) h)
+pub number : (b : List ℕ) (k n : ℕ) → n ≡ unsignedAt b k → n < 1099511627776
+    → toZ w64 (ofZ w64 (toZ w64 ((n + 549755813888) % 1099511627776) -ℤ pos 549755813888)) ≡ numberAt b k
+number b k n e h =
+    let x = (n + 549755813888) % 1099511627776 in
+    toZ-ofZ w64 (toZ w64 x -ℤ pos 549755813888) (less-fits (n + 549755813888) 1099511627776 (omega arith) (omega arith))
+    ∙ ap (λ z. z -ℤ pos 549755813888) (toZ-pos w64 x (omega arith))
+    ∙ shifted n h
+    ∙ ap twosComplement e
 
 -- ---- limits
 
-abbrev pub keeps : ℕ → List ℕ → ℕ → Bool
-keeps L b k = leb (natAbs (numberAt b k)) (limit L)
+same-leb : (a b c d : ℕ) → (a ≤ b → c ≤ d) → (c ≤ d → a ≤ b) → leb a b ≡ leb c d
+same-leb a b c d f g =
+    same-test (leb a b) (leb c d) (λ t. le-leb c d (f (leb-true a b t))) (λ t. le-leb a b (g (leb-true c d t)))
+
+module _ (b : List ℕ) (k m : ℕ) (small : m < 549755813888) where
+  -- a number keeps a limit m if by m more, cut to the range, it is at most twice m
+  pub keeps-test : (n : ℕ) → n ≡ unsignedAt b k → n < 1099511627776
+      → leb ((n + m) % 1099511627776) (2 * m) ≡ leb (natAbs (numberAt b k)) m
+  keeps-test n e h = rw (← e) (go (decLt n 549755813888))
+    where
+      go : Dec (n < 549755813888) → leb ((n + m) % 1099511627776) (2 * m) ≡ leb (natAbs (twosComplement n)) m
+      go (yes l) =
+          rw (lt-ltb n 549755813888 l)
+          (same-leb ((n + m) % 1099511627776) (2 * m) n m (λ t. omega arith) (λ t. omega arith))
+      go (no l) =
+          rw (le-ltb n 549755813888 (omega arith))
+          (same-leb ((n + m) % 1099511627776) (2 * m) (suc (1099511627775 - n)) m (λ t. omega arith) (λ t. omega arith))
+
+  -- one that keeps it by far, by its two high bytes
+  pub keeps-high : (high : ℕ) → high ≡ getD b (5 * k) 0 * 256 + getD b (5 * k + 1) 0 → ((i : ℕ) → getD b i 0 < 256)
+      → (high + m / 16777216) % 65536 < 2 * (m / 16777216) → true ≡ leb (natAbs (numberAt b k)) m
+  keeps-high high e bytes h =
+      let n = unsignedAt b k in
+      let b0 = bytes (5 * k) in
+      let b1 = bytes (5 * k + 1) in
+      let b2 = bytes (5 * k + 2) in
+      let b3 = bytes (5 * k + 3) in
+      let b4 = bytes (5 * k + 4) in
+      sym (le-leb ((n + m) % 1099511627776) (2 * m) (omega arith)) ∙ keeps-test n refl (omega arith)
+
+abbrev pub keepsLimit : ℕ → List ℕ → ℕ → Bool
+keepsLimit L b k = leb (natAbs (numberAt b k)) (limit L)
 
 pub limit-small : (L : ℕ) → L ≤ 3 → limit L < 549755813888
 limit-small L h =
     let power : 64 ^ L ≤ 262144 = pow-le-pow-right {n = 64} (omega arith) {i = L} {j = 3} h in
     omega (arith, mul-le-mul-left 32000 power)
 
-pub within-none : (L : ℕ) (b : List ℕ) → true ≡ every 0 (keeps L b)
+pub within-none : (L : ℕ) (b : List ℕ) → true ≡ every 0 (keepsLimit L b)
 unfolding every
 within-none L b = refl
 
-pub within-all : (L : ℕ) (b : List ℕ) (k n : ℕ) → k ≡ n → true ≡ every k (keeps L b) → true ≡ allWithin L n b
+pub within-more : (L : ℕ) (b : List ℕ) (k : ℕ) → true ≡ every k (keepsLimit L b) → true ≡ keepsLimit L b k
+    → true ≡ every (k + 1) (keepsLimit L b)
+unfolding every
+within-more L b k e h = rw (add-one k, ← e) h
+
+pub within-all : (L : ℕ) (b : List ℕ) (k n : ℕ) → k ≡ n → true ≡ every k (keepsLimit L b) → true ≡ allWithin L n b
 unfolding allWithin
 within-all L b k n e h = rw (← e) h
 
-module _ (L : ℕ) (b : List ℕ) (k x m : ℕ) (low : L ≤ 3) (e : x ≡ unsignedAt b k) (small : x < 1099511627776)
-    (bound : m ≡ limit L) where
-  -- up to the limit, and from the least of the negative ones that keep it on
-  keeps-limit : x ≤ m → keeps L b k ≡ true
-  keeps-limit h = rw (← e, lt-ltb x (2 ^ 39) (omega (arith, limit-small L low))) (le-leb x (limit L) (omega arith))
-
-  keeps-below : 1099511627776 - m ≤ x → keeps L b k ≡ true
-  keeps-below h =
-      rw (← e, le-ltb x (2 ^ 39) (omega (arith, limit-small L low))) (le-leb (suc (2 ^ 40 - 1 - x)) (limit L) (omega arith))
-
-  past : m < x → x < 1099511627776 - m → keeps L b k ≡ false
-  past over under = go (decLt x (2 ^ 39))
-    where
-      go : Dec (x < 2 ^ 39) → keeps L b k ≡ false
-      go (yes l) = rw (← e, lt-ltb x (2 ^ 39) l) (lt-leb x (limit L) (omega arith))
-      go (no l) =
-          rw (← e, le-ltb x (2 ^ 39) (omega arith)) (lt-leb (suc (2 ^ 40 - 1 - x)) (limit L) (omega arith))
-
-  pub within-more : true ≡ every k (keeps L b) → (m < x → x < 1099511627776 - m → ⊥)
-      → true ≡ every (k + 1) (keeps L b)
-  unfolding every
-  within-more h not = rw (add-one k, ← h) (sym (go (decLt m x) (decLt x (1099511627776 - m))))
-    where
-      go : Dec (m < x) → Dec (x < 1099511627776 - m) → keeps L b k ≡ true
-      go (no l) d = keeps-limit (omega arith)
-      go (yes l) (yes d) = absurd (not l d)
-      go (yes l) (no d) = keeps-below (omega arith)
-
-  pub within-lost : (n : ℕ) → k < n → m < x → x < 1099511627776 - m → false ≡ allWithin L n b
-  unfolding allWithin
-  within-lost n l over under = go (every n (keeps L b)) refl
-    where
-      go : (t : Bool) → every n (keeps L b) ≡ t → false ≡ t
-      go true e = sym (past over under) ∙ every-true n (keeps L b) e k l
-      go false e = refl
+pub within-lost : (L : ℕ) (b : List ℕ) (n k : ℕ) → k < n → false ≡ keepsLimit L b k → false ≡ allWithin L n b
+unfolding allWithin
+within-lost L b n k l h = go (every n (keepsLimit L b)) refl
+  where
+    go : (t : Bool) → every n (keepsLimit L b) ≡ t → false ≡ t
+    go true e = h ∙ every-true n (keepsLimit L b) e k l
+    go false e = refl

@@ -40,6 +40,10 @@ pub fn load_level(body: &[u8], part: &mut [i64], rows: &[u32; 96], w: usize, h: 
         × (length (now body) ≡ 5 * activeCount w h (levelsOf (now rows)) level) ⌝ }
     ensures { λ _. ⌜ now (part .exit) ≡ levelLoaded w h (levelsOf (now (rows .entry))) level (now (body .entry)) ⌝ }
 {
+    if body.len() == 0 {
+        coefficients::fill::fill(part, 0);
+        return;
+    }
     let e = activity::eighths(level);
     let n = coefficients::functions(w, level);
     let m = coefficients::functions(h, level);

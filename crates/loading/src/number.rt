@@ -1,6 +1,8 @@
 // The coefficients of a level's body: five bytes each, two's complement, high byte first.
 ghost use mathlib.Core.Path.{_≡_};
 ghost use Prim.Native.Nat.{_+_, _*_, _≤_, _<_};
+ghost use lib.Dec.{leb};
+ghost use lib.IntN.{natAbs};
 ghost use lib.ListN.{length};
 ghost use Rattle.surface.specs.TableFile.{unsignedAt, numberAt, allWithin};
 
@@ -21,10 +23,22 @@ pub fn number_at(body: &[u8], k: usize) -> i64
     ensures { λ r. ⌜ r ≡ numberAt (now (body .entry)) k ⌝ }
 {
     let n = unsigned_at(body, k);
-    if n < 549755813888 {
-        return n as i64;
+    ((n + 549755813888) % 1099511627776) as i64 - 549755813888
+}
+
+// Whether the k-th number of a body keeps a limit.
+fn keeps(body: &[u8], k: usize, limit: usize) -> bool
+    requires { ⌜ (5 * k + 5 ≤ length (now body)) × (limit < 549755813888) ⌝ }
+    ensures { λ r. ⌜ r ≡ leb (natAbs (numberAt (now (body .entry)) k)) limit ⌝ }
+{
+    // Of most numbers that keep it the two high bytes tell.
+    let top = limit / 16777216;
+    let high = super::bytes::two_bytes(body, 5 * k);
+    if (high + top) % 65536 < 2 * top {
+        return true;
     }
-    -1 - (1099511627775 - n) as i64
+    let n = unsigned_at(body, k);
+    (n + limit) % 1099511627776 <= 2 * limit
 }
 
 // Whether the first n numbers of a body keep the limit of their level.
@@ -32,16 +46,11 @@ pub fn within(body: &[u8], n: usize, level: usize) -> bool
     requires { ⌜ (5 * n ≤ length (now body)) × (level ≤ 3) ⌝ }
     ensures { λ r. ⌜ r ≡ allWithin level n (now (body .entry)) ⌝ }
 {
-    // As unsigned numbers, those past the limit stand between it and the negative ones that keep it.
     let limit = coefficients::limit(level) as usize;
-    let below = 1099511627776 - limit;
     let mut k = 0;
     while k < n {
-        let x = unsigned_at(body, k);
-        if limit < x {
-            if x < below {
-                return false;
-            }
+        if !keeps(body, k, limit) {
+            return false;
         }
         k += 1;
     }

@@ -325,22 +325,13 @@ module _ (W H x y side : ℕ) (t : List ℕ) (at p1 p2 p3 p4 : ℕ) (f : Fourth 
 -- ---- the squares of the children
 
 -- What a call at a child's square asks: a lesser side, and a square of more than a quarter.
-pub child-asks : (x y side m : ℕ) → side ≡ m → Square x y side → 1 < side → (side ≡ 2 → ⊥) → (a b : Bool)
-    → (side / 2 < m) × Square (half a (side / 2) x) (half b (side / 2) y) (side / 2) × (1 < side / 2)
-child-asks x y side m e square some more a b = go (square .height) (square .power)
+pub child-asks : (x y side m u v : ℕ) → side ≡ m → Square x y side → 1 < side → (side ≡ 2 → ⊥) → u + side / 2 ≤ 32
+    → v + side / 2 ≤ 32 → (side / 2 < m) × Square u v (side / 2) × (1 < side / 2)
+child-asks x y side m u v e square some more inU inV = go (square .height) (square .power)
   where
-    corner : (z : ℕ) → z + side ≤ 32 → (a : Bool) → half a (side / 2) z + side / 2 ≤ 32
-    corner z h true = omega arith
-    corner z h false = omega arith
-
-    go : (k : ℕ) → side ≡ 2 ^ k
-        → (side / 2 < m) × Square (half a (side / 2) x) (half b (side / 2) y) (side / 2) × (1 < side / 2)
+    go : (k : ℕ) → side ≡ 2 ^ k → (side / 2 < m) × Square u v (side / 2) × (1 < side / 2)
     go zero power = absurd (omega arith)
-    go (suc j) power = (
-      omega arith,
-      record { height = j; power = omega arith; inU = corner x (square .inU) a; inV = corner y (square .inV) b },
-      omega arith,
-    )
+    go (suc j) power = (omega arith, record { height = j; power = omega arith; inU = inU; inV = inV }, omega arith)
 
 -- The five bytes of a split into leaves, by their positions.
 pub fits-near : (n at i : ℕ) → n * 1 < 2 ^ 63 → at < n → i ≤ 5 → at + i < 2 ^ 64

@@ -1,25 +1,27 @@
 -- Before each turn the places below a are cleared.
-use mathlib.Core.Path.{_≡_, refl, ap, _∙_}
-use Prim.Native.Nat.{_≤_, _-_}
+use mathlib.Core.Path.{_≡_, refl}
+use Prim.Native.Nat.{ℕ, _≤_, _<_, _-_, _+_, _*_}
 use native.Mathlib.Omega.{arith}
 use borrow.Author.Needs.{sfits-of}
-use lib.IntN.{pos}
-use lib.ListN.{length, getD, set, length-set}
+use lib.IntN.{ℤ}
+use lib.ListN.{length, set, length-set}
 use mir.Syntax.{w64}
 use mir.Val.{toZ, ofZ}
-use mir.ValLaws.{toZ-ofZ}
-use Rattle.finite.specs.Range.{tableFrom}
 use Rattle.activity.specs.Marks.{marked}
+use Rattle.activity.specs.declared.Marks.{Marks}
 use Rattle.activity.proofs.ActiveLaws.{index-fits}
-use Rattle.activity.proofs.MarkLaws.{written, written-none, written-more, written-all}
-use Rattle.carry.specs.Cleared.{keptIf, rowClearedAt}
-use Rattle.carry.proofs.LevelLaws.{next-unwritten}
+use Rattle.activity.proofs.MarkLaws.{written, written-none}
+use Rattle.carry.specs.Cleared.{keptIf}
+use Rattle.carry.proofs.LevelLaws.{through, mapped, next-mapped, all-mapped}
 use Rattle.carry.proofs.clear.clear_row.Statement.{statement}
 use Rattle.carry.proofs.clear.clear_row.Tie as tie
 
+abbrev step : ℕ → Marks → ℕ → ℤ → ℤ
+step e m a z = keptIf (marked e m a) z
+
 abbrev Inv-loop : tie.InvT-loop
 Inv-loop row₀ m e n a₀ row a =
-    (a ≤ n) × (length row ≡ n) × (row ≡ written a (rowClearedAt (marked e m) row₀) row₀)
+    (a ≤ n) × (length row ≡ n) × (row ≡ written a (mapped (step e m) row₀) row₀)
 
 abbrev μ-loop : tie.MeasureT-loop
 μ-loop row₀ m e n a₀ row a = n - a
@@ -27,7 +29,7 @@ abbrev μ-loop : tie.MeasureT-loop
 loop-holds : tie.Need-loop-holds Inv-loop μ-loop
 loop-holds c =
     let args = c .args in
-    (omega arith, refl, written-none (rowClearedAt (marked (args .e) (args .m)) (args .row .now)) (args .row .now))
+    (omega arith, refl, written-none (mapped (step (args .e) (args .m)) (args .row .now)) (args .row .now))
 
 mul-kept : tie.Need-mul-kept Inv-loop μ-loop
 mul-kept c = omega arith
@@ -37,16 +39,59 @@ slice-copy-out-kept c = omega arith
 
 kept-requires : tie.Need-kept-requires Inv-loop μ-loop
 kept-requires c κs =
-    let s = c .before .before .before in (
-      index-fits (length (s .args .row .now)) (c .before .before .loop .a) (s .args .e) (s .pre .0) (s .pre .1) (omega arith),
-      s .pre .2,
-    )
+    let loop = c .before .before .loop in
+    let s = c .before .before .before in
+    (index-fits (length (s .args .row .now)) (loop .a) (s .args .e) (s .pre .0) (s .pre .1) (omega arith), s .pre .2)
 
-mul-t11 : tie.Need-mul-t11 Inv-loop μ-loop
-mul-t11 c = omega arith
+-- the first of two
+first : (c : tie.After-kept Inv-loop μ-loop)
+    → let loop = c .before .before .before .loop in
+    let args = c .before .before .before .before .args in
+    set (loop .row) (loop .a) (toZ w64 (ofZ w64 (c .kept .result)))
+    ≡ written (loop .a + 1) (mapped (step (args .e) (args .m)) (args .row .now)) (args .row .now)
+first c =
+    let loop = c .before .before .before .loop in
+    let args = c .before .before .before .before .args in
+    next-mapped (loop .a) (step (args .e) (args .m)) (args .row .now) (loop .row) (toZ w64 (ofZ w64 (c .kept .result))) (omega arith)
+    (loop .inv .2)
+    (through (step (args .e) (args .m) (loop .a)) (sfits-of (c .before .kept-arg .given)) (sfits-of (c .kept .ok))
+    (c .kept .ensures))
+
+mul-row : tie.Need-mul-row Inv-loop μ-loop
+mul-row c = omega arith
 
 slice-set-from-row : tie.Need-slice-set-from-row Inv-loop μ-loop
 slice-set-from-row c = omega arith
+
+add-next : tie.Need-add-next Inv-loop μ-loop
+add-next c = omega arith
+
+same-length : tie.Need-same-length Inv-loop μ-loop
+same-length c = simp length-set (c .before .before .before .before .loop .inv .1)
+
+returns : tie.Need-returns Inv-loop μ-loop
+returns c =
+    let loop = c .before .before .before .before .loop in
+    let args = c .before .before .before .before .before .args in
+    all-mapped (loop .a + 1) (step (args .e) (args .m)) (args .row .now) _ (c .if1 .taken) (first (c .before))
+
+mul-kept-2 : tie.Need-mul-kept-2 Inv-loop μ-loop
+mul-kept-2 c = omega arith
+
+slice-copy-out-kept-2 : tie.Need-slice-copy-out-kept-2 Inv-loop μ-loop
+slice-copy-out-kept-2 c = simp length-set (omega arith)
+
+kept-requires-2 : tie.Need-kept-requires-2 Inv-loop μ-loop
+kept-requires-2 c κs =
+    let loop = c .before .before .before .before .before .loop in
+    let s = c .before .before .before .before .before .before in
+    (index-fits (length (s .args .row .now)) (loop .a + 1) (s .args .e) (s .pre .0) (s .pre .1) (omega arith), s .pre .2)
+
+mul-t9 : tie.Need-mul-t9 Inv-loop μ-loop
+mul-t9 c = omega arith
+
+slice-set-from-row-2 : tie.Need-slice-set-from-row-2 Inv-loop μ-loop
+slice-set-from-row-2 c = simp length-set (omega arith)
 
 add-a : tie.Need-add-a Inv-loop μ-loop
 add-a c = omega arith
@@ -56,40 +101,26 @@ loop-less c = omega arith
 
 loop-again : tie.Need-loop-again Inv-loop μ-loop
 loop-again c =
-    let lent = c .before in
-    let at-loop = lent .before .before in
-    let inv = at-loop .loop .inv in
-    let a = at-loop .loop .a in
-    let row = at-loop .loop .row in
-    let args = at-loop .before .args in
-    let at = rowClearedAt (marked (args .e) (args .m)) (args .row .now) in
-    let read : toZ w64 (ofZ w64 (getD row a (pos 0))) ≡ getD (args .row .now) a (pos 0) =
-    toZ-ofZ w64 (getD row a (pos 0)) (sfits-of (lent .kept-arg .given))
-    ∙ ap (λ l. getD l a (pos 0)) (inv .2)
-    ∙ next-unwritten a at (args .row .now) in
-    let found : toZ w64 (ofZ w64 (c .kept .result)) ≡ at a =
-    toZ-ofZ w64 (c .kept .result) (sfits-of (c .kept .ok))
-    ∙ c .kept .ensures
-    ∙ ap (keptIf (marked (args .e) (args .m) a)) read in (
+    let one = c .before .before .before in
+    let loop = one .before .before .before .loop in
+    let args = one .before .before .before .before .args in
+    let two : loop .a + 1 + 1 ≡ loop .a + 2 = omega arith in (
       omega arith,
-      simp length-set (inv .1),
-      ap (λ l. set l a (toZ w64 (ofZ w64 (c .kept .result)))) (inv .2)
-          ∙ written-more a at (args .row .now) (toZ w64 (ofZ w64 (c .kept .result)))
-          (lent .before .loop-test .taken) found,
+      simp length-set (loop .inv .1),
+      rw two at
+          (next-mapped (loop .a + 1) (step (args .e) (args .m)) (args .row .now) _ _ (omega arith) (first one)
+          (through (step (args .e) (args .m) (loop .a + 1)) (sfits-of (c .before .kept-arg2 .given)) (sfits-of (c .kept2 .ok))
+          (c .kept2 .ensures))),
     )
 
-same-length : tie.Need-same-length Inv-loop μ-loop
-same-length c = c .before .loop .inv .1
+same-length-2 : tie.Need-same-length-2 Inv-loop μ-loop
+same-length-2 c = c .before .loop .inv .1
 
-returns : tie.Need-returns Inv-loop μ-loop
-returns c =
+returns-2 : tie.Need-returns-2 Inv-loop μ-loop
+returns-2 c =
     let loop = c .before .loop in
     let args = c .before .before .args in
-    let all : loop .a ≡ length (args .row .now) = omega arith in
-    let at = rowClearedAt (marked (args .e) (args .m)) (args .row .now) in
-    loop .inv .2
-    ∙ written-all (loop .a) at (args .row .now) all
-    ∙ ap (λ k. tableFrom 0 k at) all
+    all-mapped (loop .a) (step (args .e) (args .m)) (args .row .now) (loop .row) (omega arith) (loop .inv .2)
 
 pub clear-row-spec : {M : Type 1} → statement M
 clear-row-spec =
@@ -101,10 +132,18 @@ clear-row-spec =
     mul-kept
     slice-copy-out-kept
     kept-requires
-    mul-t11
+    mul-row
     slice-set-from-row
+    add-next
+    same-length
+    returns
+    mul-kept-2
+    slice-copy-out-kept-2
+    kept-requires-2
+    mul-t9
+    slice-set-from-row-2
     add-a
     loop-less
     loop-again
-    same-length
-    returns)
+    same-length-2
+    returns-2)

@@ -1,7 +1,7 @@
 -- Before each turn the rows of the level below b hold their carried values, and the level before it is as it was.
 use mathlib.Core.Path.{_≡_, refl, sym, ap, _∙_, subst}
 use mathlib.Core.List.{_++_}
-use Prim.Native.Nat.{ℕ, _≤_, _<_, _+_, _-_, _*_}
+use Prim.Native.Nat.{_≤_, _<_, _+_, _-_, _*_}
 use native.Mathlib.Nat.{le-add-right}
 use native.Mathlib.Omega.{arith}
 use borrow.Author.Needs.{needs}
@@ -10,25 +10,23 @@ use lib.Seq.{length-take-le, take-at}
 use Rattle.finite.specs.Range.{tableFrom}
 use Rattle.surface.specs.Sheet.{functions}
 use Rattle.surface.specs.Table.{places}
-use Rattle.activity.specs.Marks.{marked}
 use Rattle.activity.proofs.MarkLaws.{rowsWritten, rows-none, rows-next, rows-all}
 use Rattle.activity.proofs.WindowLaws.{row-size, eighths-le, eighths-some}
 use Rattle.coefficients.proofs.Parts.{part, row-fits, part-length}
-use Rattle.carry.specs.Carried.{Within, AlongV, rowCarried, carriedAt}
+use Rattle.carry.specs.Carried.{Within, AlongV, carriedAt}
 use Rattle.carry.proofs.LevelLaws.{front-kept}
-use Rattle.carry.proofs.CarryLaws.{parents-fit, columns-few, row-carried}
+use Rattle.carry.proofs.CarryLaws.{parents-fit, columns-few, row-own, row-carried}
 use Rattle.carry.proofs.values.carry_level.Statement.{statement}
 use Rattle.carry.proofs.values.carry_level.Tie as tie
 
 abbrev Inv-loop : tie.InvT-loop
-Inv-loop two₀ own rows w h coarse level columns first n m e b₀ two b =
+Inv-loop two₀ rows w h coarse level columns first n m e b₀ two b =
     let s = take (places w h coarse) two₀ in
-    (b ≤ m)
-    × (length two ≡ length two₀)
-    × (two ≡ s ++ rowsWritten n b (carriedAt w h coarse rows own s) (drop (places w h coarse) two₀))
+    let own = drop (places w h coarse) two₀ in
+    (b ≤ m) × (length two ≡ length two₀) × (two ≡ s ++ rowsWritten n b (carriedAt w h coarse rows s own) own)
 
 abbrev μ-loop : tie.MeasureT-loop
-μ-loop two₀ own rows w h coarse level columns first n m e b₀ two b = m - b
+μ-loop two₀ rows w h coarse level columns first n m e b₀ two b = m - b
 
 add-level : tie.Need-add-level Inv-loop μ-loop
 add-level c = search needs
@@ -54,36 +52,33 @@ loop-holds c =
     let a = wide .before .before .before .args in
     let k = places (a .w) (a .h) (a .coarse) in
     let s = take k (a .two .now) in
-    let rest = drop k (a .two .now) in (
+    let own = drop k (a .two .now) in (
       omega arith,
       refl,
       sym (take-append-drop k (a .two .now))
           ∙ ap (λ l. s ++ l)
-          (rows-none (wide .functions2 .result) (carriedAt (a .w) (a .h) (a .coarse) (a .rows .now) (a .own .now) s) rest),
+          (rows-none (wide .functions2 .result) (carriedAt (a .w) (a .h) (a .coarse) (a .rows .now) s own) own),
     )
 
 region-row-requires : tie.Need-region-row-requires Inv-loop μ-loop
 region-row-requires c κs = search needs
 
--- a turn's row is inside the level's part, of the old coefficients and of the new
+-- a turn's row is inside the level's part
 fits : (c : tie.In-loop Inv-loop μ-loop)
     → let wide = c .before .before .before .before in
     let n = wide .functions2 .result in
-    let from = c .before .loop .b * n in
-    (from + n ≤ length (wide .before .before .before .args .own .now))
-    × (wide .before .places .result + (from + n) ≤ length (c .before .loop .two))
+    wide .before .places .result + c .before .loop .b * n + n ≤ length (c .before .loop .two)
 fits c =
     let tall = c .before .before .before in
     let wide = tall .before in
     let s = wide .before .before .before in
     let a = s .args in
-    let own = row-fits (a .w) (a .h) (a .coarse + 1) (c .before .loop .b) (wide .functions2 .result)
-    (tall .functions3 .result) (a .own .now) (wide .functions2 .ensures .0) (tall .functions3 .ensures .0)
-    (c .loop-test .taken) (s .pre .4) in
-    (own, omega (arith, wide .before .places .ensures .0, c .before .loop .inv .1, s .pre .5, s .pre .4))
-
-row-count : (first from n : ℕ) → first + (from + n) - (first + from) ≡ n
-row-count first from n = omega arith
+    let k = places (a .w) (a .h) (a .coarse) in
+    let size = length-drop k (a .two .now) in
+    let row = row-fits (a .w) (a .h) (a .coarse + 1) (c .before .loop .b) (wide .functions2 .result)
+    (tall .functions3 .result) (drop k (a .two .now)) (wide .functions2 .ensures .0) (tall .functions3 .ensures .0)
+    (c .loop-test .taken) (omega (arith, size, s .pre .4)) in
+    omega (arith, row, size, wide .before .places .ensures .0, c .before .loop .inv .1, s .pre .4)
 
 -- the part of the coarser level is as it was
 front-size : (c : tie.In-loop Inv-loop μ-loop)
@@ -94,7 +89,7 @@ front-size c =
     let parts = c .before .before .before .before .before in
     let s = parts .before .before in
     let a = s .args in
-    length-take-le (places (a .w) (a .h) (a .coarse)) (a .two .now) (omega (arith, s .pre .5))
+    length-take-le (places (a .w) (a .h) (a .coarse)) (a .two .now) (omega (arith, s .pre .4))
     ∙ sym (parts .places .ensures .0)
 
 front : (c : tie.In-loop Inv-loop μ-loop)
@@ -106,89 +101,72 @@ front c =
     ap (take first) (c .before .loop .inv .2) ∙ take-at _ _ first (front-size c)
 
 slice-reshare-prefix-along-v : tie.Need-slice-reshare-prefix-along-v Inv-loop μ-loop
-slice-reshare-prefix-along-v c = omega (arith, fits (c .before) .1)
+slice-reshare-prefix-along-v c = omega (arith, fits (c .before))
 
 slice-aggregate-along-v : tie.Need-slice-aggregate-along-v Inv-loop μ-loop
 slice-aggregate-along-v c =
     let turn = c .before .before in
     sym (length-take-le (turn .before .before .before .before .before .places .result) (turn .before .loop .two)
-    (omega (arith, fits turn .1)))
+    (omega (arith, fits turn)))
 
 along-v-requires : tie.Need-along-v-requires Inv-loop μ-loop
 along-v-requires c κs =
     let turn = c .before .before in
-    let two = turn .before .loop .two in
-    let parts = turn .before .before .before .before .before in
+    let loop = turn .before .loop in
+    let tall = turn .before .before .before in
+    let parts = tall .before .before in
     let columns = parts .before in
     let s = columns .before in
     let a = s .args in
-    let row : turn .before .loop .b < functions (a .h) (a .coarse + 1) =
-    subst (λ k. turn .before .loop .b < k) (turn .before .before .before .functions3 .ensures .0)
-    (turn .loop-test .taken) in (
+    let row : loop .b < functions (a .h) (a .coarse + 1) =
+    subst (λ k. loop .b < k) (tall .functions3 .ensures .0) (turn .loop-test .taken) in (
       omega (arith, columns .functions .ensures .0, columns-few (a .w) (a .coarse) (s .pre .0) (s .pre .2)),
-      rw (length-take-le (parts .places .result) two (omega (arith, fits turn .1)), parts .places .ensures .0)
-          (parents-fit (a .w) (a .h) (a .coarse) (turn .before .loop .b) (columns .functions .result)
+      rw (length-take-le (parts .places .result) (loop .two) (omega (arith, fits turn)), parts .places .ensures .0)
+          (parents-fit (a .w) (a .h) (a .coarse) (loop .b) (columns .functions .result)
           (columns .functions .ensures .0) row),
-      subst (λ l. Within 131072000 l) (sym (front turn)) (s .pre .6),
+      subst (λ l. Within 131072000 l) (sym (front turn)) (s .pre .5),
     )
 
 mul-from : tie.Need-mul-from Inv-loop μ-loop
-mul-from c = omega (arith, fits (c .before .before .before) .0)
+mul-from c = omega (arith, fits (c .before .before .before))
+
+add-from : tie.Need-add-from Inv-loop μ-loop
+add-from c = omega (arith, fits (c .before .before .before))
 
 add-to : tie.Need-add-to Inv-loop μ-loop
-add-to c = omega (arith, fits (c .before .before .before) .0)
-
-add-start : tie.Need-add-start Inv-loop μ-loop
-add-start c = omega (arith, fits (c .before .before .before) .1)
-
-add-end : tie.Need-add-end Inv-loop μ-loop
-add-end c = omega (arith, fits (c .before .before .before) .1)
+add-to c = omega (arith, fits (c .before .before .before))
 
 mul-carry-row : tie.Need-mul-carry-row Inv-loop μ-loop
-mul-carry-row c = omega (arith, fits (c .before .before .before) .1)
+mul-carry-row c = omega (arith, fits (c .before .before .before))
 
 sub-carry-row : tie.Need-sub-carry-row Inv-loop μ-loop
-sub-carry-row c = omega arith
+sub-carry-row c = le-add-right _ _
 
 part-carry-row-start : tie.Need-part-carry-row-start Inv-loop μ-loop
-part-carry-row-start c = omega arith
+part-carry-row-start c = le-add-right _ _
 
 part-carry-row-end : tie.Need-part-carry-row-end Inv-loop μ-loop
-part-carry-row-end c = fits (c .before .before .before) .1
-
-mul-carry-row-2 : tie.Need-mul-carry-row-2 Inv-loop μ-loop
-mul-carry-row-2 c = omega (arith, fits (c .before .before .before .before) .0)
-
-sub-carry-row-2 : tie.Need-sub-carry-row-2 Inv-loop μ-loop
-sub-carry-row-2 c = omega arith
-
-part-carry-row-start-2 : tie.Need-part-carry-row-start-2 Inv-loop μ-loop
-part-carry-row-start-2 c = le-add-right _ _
-
-part-carry-row-end-2 : tie.Need-part-carry-row-end-2 Inv-loop μ-loop
-part-carry-row-end-2 c = fits (c .before .before .before .before) .0
+part-carry-row-end c = fits (c .before .before .before)
 
 carry-row-requires : tie.Need-carry-row-requires Inv-loop μ-loop
 carry-row-requires c κs =
-    let lent = c .before .before in
-    let turn = lent .before .before .before .before in
-    let wide = turn .before .before .before .before in
+    let along = c .before .before in
+    let turn = along .before .before .before in
+    let loop = turn .before .loop in
     let side = turn .before .before .eighths in
+    let wide = turn .before .before .before .before in
     let s = wide .before .before .before in
     let a = s .args in
     let n = wide .functions2 .result in
     let level = a .coarse + 1 in
-    let from = turn .before .loop .b * n in
-    let first = wide .before .places .result in
-    let count = lent .carry-row-arg .given .2 ∙ row-count first from n in (
-      part-length from n (a .own .now) (fits turn .0) ∙ sym count,
+    let count = part-length (wide .before .places .result + loop .b * n) n (loop .two) (fits turn) in (
       omega (arith, count, wide .functions2 .ensures .1),
       rw count
           (row-size (a .w) level n (side .result) (s .pre .0) (omega (arith, s .pre .2)) (wide .functions2 .ensures .0)
           (side .ensures)),
       omega (arith, side .ensures, eighths-some level),
       omega (arith, side .ensures, eighths-le level),
-      lent .before .along-v .ensures .small,
+      along .along-v .ensures .small,
     )
 
 add-b : tie.Need-add-b Inv-loop μ-loop
@@ -200,8 +178,7 @@ loop-less c = omega arith
 loop-again : tie.Need-loop-again Inv-loop μ-loop
 loop-again c =
     let called = c .before in
-    let lent = called .before .before .before in
-    let along = lent .before in
+    let along = called .before .before .before in
     let marks = along .before .before in
     let turn = marks .before in
     let loop = turn .before .loop in
@@ -212,29 +189,26 @@ loop-again c =
     let n = wide .functions2 .result in
     let b = loop .b in
     let first = wide .before .places .result in
-    let from = b * n in
-    let count = first + (from + n) - (first + from) in
+    let count = first + b * n + n - (first + b * n) in
     let k = places (a .w) (a .h) (a .coarse) in
     let s = take k (a .two .now) in
-    let rest = drop k (a .two .now) in
-    let f = carriedAt (a .w) (a .h) (a .coarse) (a .rows .now) (a .own .now) s in
+    let own = drop k (a .two .now) in
+    let f = carriedAt (a .w) (a .h) (a .coarse) (a .rows .now) s own in
     let row = called .carry-row .last .0 in
     let sums : AlongV (functions (a .w) (a .coarse)) b s (along .along-v .result) =
     rw (columns .functions .ensures .0, front turn) at (along .along-v .ensures) in
     let new : row ≡ tableFrom 0 n (λ k. f k b) =
     called .carry-row .ensures
-    ∙ ap
-    (λ k. tableFrom 0 k (rowCarried (marked (side .eighths .result) (marks .region-row .result))
-    (part from n (a .own .now)) (along .along-v .result)))
-    (lent .carry-row-arg .given .2 ∙ row-count first from n)
-    ∙ row-carried (a .w) (a .h) (a .coarse) n b (side .eighths .result) (a .rows .now) (marks .region-row .result)
-    (a .own .now) s (along .along-v .result) (wide .functions2 .ensures .0) (side .eighths .ensures)
-    (marks .region-row .ensures) sums in (
+    ∙ row-carried (a .w) (a .h) (a .coarse) n b (side .eighths .result) (a .rows .now) (marks .region-row .result) s own
+    (along .along-v .result) (part (first + b * n) n (loop .two)) (wide .functions2 .ensures .0)
+    (side .eighths .ensures) (marks .region-row .ensures) sums
+    (part-length (first + b * n) n (loop .two) (fits turn))
+    (λ k h. row-own s own (loop .two) f first n b count k (front-size turn) (loop .inv .2) (omega arith)) in (
       omega (arith, turn .loop-test .taken),
       rw (loop .inv .1) at (c .two .given .1),
-      ap (λ l. take (first + from) l ++ (row ++ drop count (drop (first + from) l))) (loop .inv .2)
-          ∙ front-kept s (rowsWritten n b f rest) row first from count (front-size turn)
-          ∙ ap (λ l. s ++ l) (rows-next n b count f rest (rowsWritten n b f rest) row refl (row-count first from n) new),
+      ap (λ l. take (first + b * n) l ++ (row ++ drop count (drop (first + b * n) l))) (loop .inv .2)
+          ∙ front-kept s (rowsWritten n b f own) row first (b * n) count (front-size turn)
+          ∙ ap (λ l. s ++ l) (rows-next n b count f own (rowsWritten n b f own) row refl (omega arith) new),
     )
 
 same-length : tie.Need-same-length Inv-loop μ-loop
@@ -248,13 +222,12 @@ returns c =
     let s = wide .before .before .before in
     let a = s .args in
     let k = places (a .w) (a .h) (a .coarse) in
-    let front = take k (a .two .now) in
-    let rest = drop k (a .two .now) in
+    let own = drop k (a .two .now) in
     loop .inv .2
-    ∙ ap (λ l. front ++ l)
-    (rows-all (loop .b) (carriedAt (a .w) (a .h) (a .coarse) (a .rows .now) (a .own .now) front) rest refl (loop .inv .0)
-    (c .loop-test .left) (wide .functions2 .ensures .0) (tall .functions3 .ensures .0)
-    (omega (arith, length-drop k (a .two .now), s .pre .5)))
+    ∙ ap (λ l. take k (a .two .now) ++ l)
+    (rows-all (loop .b) (carriedAt (a .w) (a .h) (a .coarse) (a .rows .now) (take k (a .two .now)) own) own refl
+    (loop .inv .0) (c .loop-test .left) (wide .functions2 .ensures .0) (tall .functions3 .ensures .0)
+    (omega (arith, length-drop k (a .two .now), s .pre .4)))
 
 pub carry-level-spec : {M : Type 1} → statement M
 carry-level-spec =
@@ -274,17 +247,12 @@ carry-level-spec =
     slice-aggregate-along-v
     along-v-requires
     mul-from
+    add-from
     add-to
-    add-start
-    add-end
     mul-carry-row
     sub-carry-row
     part-carry-row-start
     part-carry-row-end
-    mul-carry-row-2
-    sub-carry-row-2
-    part-carry-row-start-2
-    part-carry-row-end-2
     carry-row-requires
     add-b
     loop-less

@@ -1,5 +1,4 @@
 -- The child of two parents or of three.
-use mathlib.Core.Path.{_≡_}
 use Prim.Native.Nat.{_+_, _<_}
 use native.Mathlib.Omega.{arith}
 use borrow.Author.Needs.{needs, sfits-of}
@@ -10,20 +9,20 @@ use Rattle.carry.proofs.ChildLaws.{odd-rest, child-even, child-odd}
 use Rattle.carry.proofs.values.child.Statement.{statement}
 use Rattle.carry.proofs.values.child.Tie as tie
 
-mul-even : tie.Need-mul-even
-mul-even c = search needs
+mul-x : tie.Need-mul-x
+mul-x c = search needs
 
-shared-slice-copy-out-even : tie.Need-shared-slice-copy-out-even
-shared-slice-copy-out-even c = search needs
+shared-slice-copy-out-x : tie.Need-shared-slice-copy-out-x
+shared-slice-copy-out-x c = search needs
 
-add-even : tie.Need-add-even
-add-even c = search needs
+add-next : tie.Need-add-next
+add-next c = search needs
 
-mul-even-2 : tie.Need-mul-even-2
-mul-even-2 c = search needs
+mul-y : tie.Need-mul-y
+mul-y c = search needs
 
-shared-slice-copy-out-even-2 : tie.Need-shared-slice-copy-out-even-2
-shared-slice-copy-out-even-2 c = search needs
+shared-slice-copy-out-y : tie.Need-shared-slice-copy-out-y
+shared-slice-copy-out-y c = search needs
 
 even-requires : tie.Need-even-requires
 even-requires c κs =
@@ -39,37 +38,18 @@ returns c =
     let l = s .args .values .now in
     let at = s .args .at in
     let next = at + s .args .step in
-    child-even l at (s .args .step) (s .args .c) (s .pre .0) (c .before .before .before .if1 .taken)
+    child-even l at (s .args .step) (s .args .c) (s .pre .0) (c .before .if1 .taken)
     (even-value (getD l at (pos 0)) (getD l next (pos 0)) (sfits-of (c .even .ok)) (s .pre .2 at (omega arith))
     (s .pre .2 next (s .pre .0)) (c .even .ensures))
+
+add-odd : tie.Need-add-odd
+add-odd c = search needs
 
 mul-odd : tie.Need-mul-odd
 mul-odd c = search needs
 
 shared-slice-copy-out-odd : tie.Need-shared-slice-copy-out-odd
-shared-slice-copy-out-odd c = search needs
-
-add-odd : tie.Need-add-odd
-add-odd c = search needs
-
-mul-odd-2 : tie.Need-mul-odd-2
-mul-odd-2 c = search needs
-
-shared-slice-copy-out-odd-2 : tie.Need-shared-slice-copy-out-odd-2
-shared-slice-copy-out-odd-2 c = search needs
-
-add-odd-2 : tie.Need-add-odd-2
-add-odd-2 c = search needs
-
-add-odd-3 : tie.Need-add-odd-3
-add-odd-3 c = search needs
-
-mul-odd-3 : tie.Need-mul-odd-3
-mul-odd-3 c = search needs
-
-shared-slice-copy-out-odd-3 : tie.Need-shared-slice-copy-out-odd-3
-shared-slice-copy-out-odd-3 c =
-    let s = c .before .before .before in s .pre .1 (odd-rest (s .args .c) (c .before .before .if1 .left))
+shared-slice-copy-out-odd c = let s = c .before .before .before in s .pre .1 (odd-rest (s .args .c) (c .if1 .left))
 
 odd-requires : tie.Need-odd-requires
 odd-requires c κs =
@@ -80,7 +60,7 @@ odd-requires c κs =
     let last = next + s .args .step in (
       small (getD l at (pos 0)) (s .pre .2 at (omega arith)),
       small (getD l next (pos 0)) (s .pre .2 next (s .pre .0)),
-      small (getD l last (pos 0)) (s .pre .2 last (s .pre .1 (odd-rest (s .args .c) (c .before .before .before .if1 .left)))),
+      small (getD l last (pos 0)) (s .pre .2 last (s .pre .1 (odd-rest (s .args .c) (c .before .if1 .left)))),
     )
 
 returns-2 : tie.Need-returns-2
@@ -90,7 +70,7 @@ returns-2 c =
     let at = s .args .at in
     let next = at + s .args .step in
     let last = next + s .args .step in
-    let odd = c .before .before .before .before .if1 .left in
+    let odd = c .before .before .if1 .left in
     let three : last < length l = s .pre .1 (odd-rest (s .args .c) odd) in
     child-odd l at (s .args .step) (s .args .c) three odd
     (odd-value (getD l at (pos 0)) (getD l next (pos 0)) (getD l last (pos 0)) (sfits-of (c .odd .ok))
@@ -100,21 +80,15 @@ pub child-spec : {M : Type 1} → statement M
 child-spec =
     tie.close
     (tie.spec
-    mul-even
-    shared-slice-copy-out-even
-    add-even
-    mul-even-2
-    shared-slice-copy-out-even-2
+    mul-x
+    shared-slice-copy-out-x
+    add-next
+    mul-y
+    shared-slice-copy-out-y
     even-requires
     returns
+    add-odd
     mul-odd
     shared-slice-copy-out-odd
-    add-odd
-    mul-odd-2
-    shared-slice-copy-out-odd-2
-    add-odd-2
-    add-odd-3
-    mul-odd-3
-    shared-slice-copy-out-odd-3
     odd-requires
     returns-2)

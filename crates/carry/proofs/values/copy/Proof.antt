@@ -8,8 +8,9 @@ use lib.ListN.{length, getD, set, length-set}
 use mir.Syntax.{w64}
 use mir.Val.{toZ, ofZ}
 use mir.ValLaws.{toZ-ofZ}
+use Rattle.finite.specs.Range.{tableFrom}
 use Rattle.activity.proofs.MarkLaws.{written, written-none, written-more, written-all}
-use Rattle.carry.specs.Carried.{copied}
+use Rattle.carry.proofs.LevelLaws.{table-self}
 use Rattle.carry.proofs.values.copy.Statement.{statement}
 use Rattle.carry.proofs.values.copy.Tie as tie
 
@@ -65,7 +66,8 @@ returns c =
     let all : loop .i ≡ length (args .s .now) = omega arith in
     loop .inv .2
     ∙ written-all (loop .i) (λ k. getD (args .numbers .now) k (pos 0)) (args .s .now) all
-    ∙ ap (λ k. copied k (args .numbers .now)) all
+    ∙ ap (λ k. tableFrom 0 k (λ k. getD (args .numbers .now) k (pos 0))) (omega arith)
+    ∙ table-self (args .numbers .now) (pos 0)
 
 pub copy-spec : {M : Type 1} → statement M
 copy-spec =

@@ -4,10 +4,11 @@ use Prim.Native.Nat.{_+_, _-_, _*_, _≤_, _<_}
 use native.Mathlib.Nat.{le-add-right}
 use native.Mathlib.Omega.{arith}
 use borrow.Author.Needs.{needs}
-use lib.ListN.{length}
+use lib.IntN.{pos}
+use lib.ListN.{length, replicate}
 use Rattle.finite.specs.Range.{count, tableFrom}
 use Rattle.surface.specs.Table.{places}
-use Rattle.surface.specs.TableFile.{activeInRow, loaded}
+use Rattle.surface.specs.TableFile.{activeInRow, activeCount, loaded}
 use Rattle.coefficients.proofs.Parts.{part, row-small, row-fits, part-length}
 use Rattle.rows.specs.Rows.{levelsOf}
 use Rattle.activity.specs.Marks.{marked}
@@ -15,7 +16,7 @@ use Rattle.activity.proofs.CountLaws.{total-none, total-more, row-count}
 use Rattle.activity.proofs.MarkLaws.{rowsWritten, rows-none, rows-next, rows-all}
 use Rattle.activity.proofs.WindowLaws.{row-size, eighths-le, eighths-some}
 use Rattle.loading.specs.Levels.{rowLoaded}
-use Rattle.loading.proofs.LevelLaws.{rowsBefore, row-within, row-loaded}
+use Rattle.loading.proofs.LevelLaws.{rowsBefore, row-within, row-loaded, none-loaded}
 use Rattle.loading.proofs.load.load_level.Statement.{statement}
 use Rattle.loading.proofs.load.load_level.Tie as tie
 
@@ -29,6 +30,23 @@ Inv-loop body part₀ rows w h level e n m next₀ b₀ part next b =
 abbrev μ-loop : tie.MeasureT-loop
 μ-loop body part₀ rows w h level e n m next₀ b₀ part next b = m - b
 
+fill-requires : tie.Need-fill-requires Inv-loop μ-loop
+fill-requires c κs = search needs
+
+same-length : tie.Need-same-length Inv-loop μ-loop
+same-length c = search needs
+
+returns : tie.Need-returns Inv-loop μ-loop
+returns c =
+    let empty = c .before .before .before in
+    let s = empty .before .before in
+    let a = s .args in
+    let none : activeCount (a .w) (a .h) (levelsOf (a .rows .now)) (a .level) ≡ 0 =
+    omega (arith, empty .if1 .taken, s .pre .5) in
+    c .before .fill .ensures
+    ∙ ap (λ n. replicate n (pos 0)) (s .pre .4)
+    ∙ sym (none-loaded (a .w) (a .h) (a .level) (levelsOf (a .rows .now)) (a .body .now) none)
+
 eighths-requires : tie.Need-eighths-requires Inv-loop μ-loop
 eighths-requires c κs = search needs
 
@@ -41,7 +59,7 @@ functions-requires-2 c κs = search needs
 loop-holds : tie.Need-loop-holds Inv-loop μ-loop
 loop-holds c =
     let n = c .before .functions .result in
-    let s = c .before .before .before .before in
+    let s = c .before .before .before .before .before in
     let a = s .args in
     let f = loaded (a .w) (a .h) (levelsOf (a .rows .now)) (a .level) (a .body .now) in
     (omega arith, s .pre .4, total-none _, rows-none n f (a .part .now))
@@ -49,7 +67,7 @@ loop-holds c =
 active-row-requires : tie.Need-active-row-requires Inv-loop μ-loop
 active-row-requires c κs =
     let rows = c .before .before in
-    let p = rows .before .before .before .before .pre in
+    let p = rows .before .before .before .before .before .pre in
     (p .0, p .1, p .2, omega (arith, rows .functions2 .ensures .0, c .loop-test .taken), p .3)
 
 -- a turn's row is inside the part
@@ -59,7 +77,7 @@ inside : (c : tie.In-loop Inv-loop μ-loop)
 inside c =
     let rows = c .before .before in
     let columns = rows .before in
-    let a = columns .before .before .before .args in
+    let a = columns .before .before .before .before .args in
     row-fits (a .w) (a .h) (a .level) (c .before .loop .b) (columns .functions .result) (rows .functions2 .result)
     (c .before .loop .part) (columns .functions .ensures .0) (rows .functions2 .ensures .0) (c .loop-test .taken)
     (c .before .loop .inv .1)
@@ -92,13 +110,13 @@ part-load-row-end c = inside (c .before)
 -- the marks of a turn's row count its active functions
 counted : (c : tie.After-active-row Inv-loop μ-loop)
     → let columns = c .before .before .before .before in
-    let a = columns .before .before .before .args in
+    let a = columns .before .before .before .before .args in
     count (columns .functions .result) (marked (columns .before .eighths .result) (c .active-row .result))
     ≡ activeInRow (a .w) (a .h) (levelsOf (a .rows .now)) (a .level) (c .before .before .loop .b)
 counted c =
     let columns = c .before .before .before .before in
     let side = columns .before .eighths in
-    let a = columns .before .before .before .args in
+    let a = columns .before .before .before .before .args in
     row-count (a .w) (a .h) (a .level) (columns .functions .result) (c .before .before .loop .b) (levelsOf (a .rows .now))
     (side .result) (c .active-row .result) (columns .functions .ensures .0) (side .ensures) (c .active-row .ensures)
 
@@ -109,7 +127,7 @@ load-row-requires c κs =
     let rows = turn .before .before in
     let columns = rows .before in
     let side = columns .before .eighths in
-    let s = columns .before .before .before in
+    let s = columns .before .before .before .before in
     let a = s .args in
     let n = columns .functions .result in
     let b = turn .before .loop .b in
@@ -138,7 +156,7 @@ loop-again c =
     let loop = turn .before .loop in
     let columns = turn .before .before .before in
     let side = columns .before .eighths in
-    let s = columns .before .before .before in
+    let s = columns .before .before .before .before in
     let a = s .args in
     let lev = levelsOf (a .rows .now) in
     let n = columns .functions .result in
@@ -154,7 +172,7 @@ loop-again c =
     ∙ row-loaded (a .w) (a .h) (a .level) n b lev (side .result) (marks .result) (a .body .now) (loop .next)
     (columns .functions .ensures .0) (side .ensures) (marks .ensures) (loop .inv .2) in (
       omega (arith, turn .loop-test .taken),
-      rw (loop .inv .1) at (c .part .given .1),
+      rw (loop .inv .1) at (c .part2 .given .1),
       called .load-row .ensures .1
           ∙ ap (λ k. loop .next + count k p) size
           ∙ total-more b (loop .next) _ _ (loop .inv .2) (counted d),
@@ -162,15 +180,16 @@ loop-again c =
           count-n row,
     )
 
-same-length : tie.Need-same-length Inv-loop μ-loop
-same-length c = c .before .loop .inv .1 ∙ sym (c .before .before .before .before .before .before .pre .4)
+same-length-2 : tie.Need-same-length-2 Inv-loop μ-loop
+same-length-2 c =
+    c .before .loop .inv .1 ∙ sym (c .before .before .before .before .before .before .before .pre .4)
 
-returns : tie.Need-returns Inv-loop μ-loop
-returns c =
+returns-2 : tie.Need-returns-2 Inv-loop μ-loop
+returns-2 c =
     let loop = c .before .loop in
     let rows = c .before .before in
     let columns = rows .before in
-    let s = columns .before .before .before in
+    let s = columns .before .before .before .before in
     let a = s .args in
     rows-all (loop .b) (loaded (a .w) (a .h) (levelsOf (a .rows .now)) (a .level) (a .body .now)) (a .part .now)
     (loop .inv .3) (loop .inv .0) (c .loop-test .left) (columns .functions .ensures .0) (rows .functions2 .ensures .0)
@@ -182,6 +201,9 @@ load-level-spec =
     (tie.spec
     Inv-loop
     μ-loop
+    fill-requires
+    same-length
+    returns
     eighths-requires
     functions-requires
     functions-requires-2
@@ -197,5 +219,5 @@ load-level-spec =
     add-b
     loop-less
     loop-again
-    same-length
-    returns)
+    same-length-2
+    returns-2)

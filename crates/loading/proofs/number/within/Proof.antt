@@ -1,25 +1,27 @@
 -- Before each turn the numbers before the k-th keep their limit.
-use mathlib.Core.Path.{_≡_, ap, _∙_}
+use mathlib.Core.Path.{_≡_, sym, ap, _∙_}
 use mathlib.Core.Bool.{true}
-use mathlib.Core.Logic.{⊎-elim}
 use Prim.Native.Nat.{_≤_, _-_}
 use native.Mathlib.Omega.{arith}
 use borrow.Author.Needs.{sfits-of}
+use borrow.Author.Tests.{not-true, not-false}
+use lib.Dec.{leb}
 use lib.IntN.{pos, natAbs}
 use mir.Syntax.{w64}
 use mir.Val.{ofZ, toZ}
 use mir.ValLaws.{toZ-ofZ}
 use Rattle.finite.specs.Range.{every}
 use Rattle.surface.specs.Table.{limit}
-use Rattle.loading.proofs.NumberLaws.{keeps, limit-small, within-none, within-more, within-all, within-lost}
+use Rattle.surface.specs.TableFile.{numberAt}
+use Rattle.loading.proofs.NumberLaws.{keepsLimit, limit-small, within-none, within-more, within-all, within-lost}
 use Rattle.loading.proofs.number.within.Statement.{statement}
 use Rattle.loading.proofs.number.within.Tie as tie
 
 abbrev Inv-loop : tie.InvT-loop
-Inv-loop body n level limit below k₀ k = (k ≤ n) × (true ≡ every k (keeps level body))
+Inv-loop body n level limit k₀ k = (k ≤ n) × (true ≡ every k (keepsLimit level body))
 
 abbrev μ-loop : tie.MeasureT-loop
-μ-loop body n level limit below k₀ k = n - k
+μ-loop body n level limit k₀ k = n - k
 
 limit-requires : tie.Need-limit-requires Inv-loop μ-loop
 limit-requires c κs = c .before .pre .1
@@ -34,28 +36,34 @@ cast-limit c =
     let s = c .before .before in
     rw (bound c) (tt, omega (arith, limit-small (s .args .level) (s .pre .1)))
 
-sub-below : tie.Need-sub-below Inv-loop μ-loop
-sub-below c =
-    let s = c .before .before in
-    rw (bound c) (omega (arith, limit-small (s .args .level) (s .pre .1)))
-
 loop-holds : tie.Need-loop-holds Inv-loop μ-loop
 loop-holds c =
     let a = c .before .before .args in
     (omega arith, within-none (a .level) (a .body .now))
 
-unsigned-at-requires : tie.Need-unsigned-at-requires Inv-loop μ-loop
-unsigned-at-requires c κs = omega (arith, c .loop-test .taken, c .before .before .before .before .pre .0)
+keeps-requires : tie.Need-keeps-requires Inv-loop μ-loop
+keeps-requires c κs =
+    let l = c .before .before in
+    let s = l .before .before in (
+      omega (arith, c .loop-test .taken, s .pre .0),
+      rw (bound l) (limit-small (s .args .level) (s .pre .1)),
+    )
+
+-- what is said of a turn's number
+told : (c : tie.After-keeps Inv-loop μ-loop)
+    → let a = c .before .before .before .before .before .args in
+    c .keeps .result ≡ keepsLimit (a .level) (a .body .now) (c .before .before .loop .k)
+told c =
+    let a = c .before .before .before .before .before .args in
+    c .keeps .ensures
+    ∙ ap (λ z. leb (natAbs (numberAt (a .body .now) (c .before .before .loop .k))) (natAbs z)) (bound (c .before .before .before))
 
 returns : tie.Need-returns Inv-loop μ-loop
 returns c =
-    let x = c .before .before .unsigned-at in
-    let turn = c .before .before .before in
-    let l = turn .before .before in
-    let s = l .before .before in
-    let a = s .args in
-    within-lost (a .level) (a .body .now) (turn .before .loop .k) (x .result) _ (s .pre .1) (x .ensures .0) (x .ensures .1)
-    (ap natAbs (bound l)) (a .n) (turn .loop-test .taken) (c .before .if1 .taken) (c .if2 .taken)
+    let turn = c .before .before in
+    let a = turn .before .before .before .before .args in
+    within-lost (a .level) (a .body .now) (a .n) (turn .before .loop .k) (turn .loop-test .taken)
+    (sym (not-true _ (c .if1 .taken)) ∙ told (c .before))
 
 add-k : tie.Need-add-k Inv-loop μ-loop
 add-k c = omega arith
@@ -65,16 +73,11 @@ loop-less c = omega arith
 
 loop-again : tie.Need-loop-again Inv-loop μ-loop
 loop-again c =
-    let x = c .before .unsigned-at in
     let turn = c .before .before in
     let loop = turn .before .loop in
-    let l = turn .before .before in
-    let s = l .before .before in
-    let a = s .args in (
+    let a = turn .before .before .before .before .args in (
       omega (arith, turn .loop-test .taken),
-      within-more (a .level) (a .body .now) (loop .k) (x .result) _ (s .pre .1) (x .ensures .0) (x .ensures .1)
-          (ap natAbs (bound l)) (loop .inv .1)
-          (⊎-elim (λ w over under. omega (arith, w .1 .left)) (λ w over under. omega (arith, w .left)) (c .if1 .came)),
+      within-more (a .level) (a .body .now) (loop .k) (loop .inv .1) (sym (not-false _ (c .if1 .left)) ∙ told (c .before)),
     )
 
 returns-2 : tie.Need-returns-2 Inv-loop μ-loop
@@ -91,9 +94,8 @@ within-spec =
     μ-loop
     limit-requires
     cast-limit
-    sub-below
     loop-holds
-    unsigned-at-requires
+    keeps-requires
     returns
     add-k
     loop-less

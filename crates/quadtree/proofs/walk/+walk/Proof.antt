@@ -2,7 +2,6 @@
 -- gathered in a record after each call, and each way out is a law of `EndLaws`, `SplitEnd` or `WalkLaws`.
 use borrow.Author.Needs.{needs}
 use borrow.Author.Tests.{not-true, not-false}
-use mathlib.Core.Bool.{Bool, true, false}
 use mathlib.Core.List.{List}
 use mathlib.Core.Path.{sym, _∙_}
 use Prim.Native.Nat.{ℕ, _+_, _/_, _≤_, _<_}
@@ -10,7 +9,6 @@ use native.Mathlib.Omega.{arith}
 use lib.ListN.{length}
 use borrow.Fn.Kinds.{In}
 use borrow.Fn.PlainCycle.{Measures, is, falls, and}
-use Rattle.surface.proofs.TreeForm.{half}
 use Rattle.quadtree.specs.End.{Square}
 use Rattle.quadtree.specs.Judged.{PaintedTree}
 use Rattle.quadtree.proofs.EndLaws.{past-end, leaf-end, leaf-bad, wrong-byte}
@@ -103,15 +101,12 @@ module _ (t : ℕ) where
   abbrev p4 : End4 → ℕ
   p4 c = c .before .p4 .given .0 .0
 
-  -- the rows after each call
+  -- the rows after the first and the second call
   abbrev after1 : End1 → List ℕ
   after1 c = c .before .before .before .walk .last .1 .1 .1 .1 .1 .1 .1 .0
 
   abbrev after2 : End2 → List ℕ
   after2 c = c .before .before .before .walk2 .last .1 .1 .1 .1 .1 .1 .1 .0
-
-  abbrev after3 : End3 → List ℕ
-  after3 c = c .before .before .before .walk3 .last .1 .1 .1 .1 .1 .1 .1 .0
 
   returns : lts.Need-returns (claims t) (here t) reads.Post
   returns c = judged-bad (past-end _ _ _ _ _ _ _ (c .if1 .taken))
@@ -180,21 +175,22 @@ module _ (t : ℕ) where
       }
 
   -- what a call at a child's square asks
-  asks : (c : Calls) (a b : Bool) {Sized : Type 0} → Sized
-      → let s = start c .args in
-      (s .side / 2 < t)
-      × (Square (half a (s .side / 2) (s .x)) (half b (s .side / 2) (s .y)) (s .side / 2) × (1 < s .side / 2)
-      × (s .w ≤ 8) × (s .h ≤ 8) × Sized)
-  asks c a b size =
+  asks : (c : Calls) (u v : ℕ) {Sized : Type 0} → Sized → u + start c .args .side / 2 ≤ 32
+      → v + start c .args .side / 2 ≤ 32
+      → let a = start c .args in
+      (a .side / 2 < t) × (Square u v (a .side / 2) × (1 < a .side / 2) × (a .w ≤ 8) × (a .h ≤ 8) × Sized)
+  asks c u v size inU inV =
       let p = start c .pre in
-      let k = child-asks _ _ _ _ (p .0) (p .1 .0) (p .1 .1) (c .if5 .left) a b in
+      let k = child-asks _ _ _ _ u v (p .0) (p .1 .0) (p .1 .1) (c .if5 .left) inU inV in
       (k .0, (k .1, k .2, p .1 .2, p .1 .3, size))
 
   add-walk : lts.Need-add-walk (claims t) (here t) reads.Post
   add-walk c = record { fits = fits-near _ _ 1 (start c .good .0 .1) (split-known c .inside) (omega arith) }
 
   walk-requires : lts.Need-walk-requires (claims t) (here t) reads.Post
-  walk-requires c κs = asks (c .before) true true (start (c .before) .pre .1 .4)
+  walk-requires c κs =
+      let p = start (c .before) .pre in
+      asks (c .before) _ _ (p .1 .4) (omega (arith, p)) (omega (arith, p))
 
   enum-known-p1 : lts.Need-enum-known-p1 (claims t) (here t) reads.Post
   enum-known-p1 c = search needs
@@ -225,7 +221,9 @@ module _ (t : ℕ) where
   add-walk-2 c = search needs
 
   walk-requires-2 : lts.Need-walk-requires-2 (claims t) (here t) reads.Post
-  walk-requires-2 c κs = asks (calls (c .before)) false true (painted1 (c .before) .size)
+  walk-requires-2 c κs =
+      let d = calls (c .before) in
+      asks d _ _ (painted1 (c .before) .size) (omega (arith, start d .pre)) (omega (arith, start d .pre))
 
   enum-known-p2 : lts.Need-enum-known-p2 (claims t) (here t) reads.Post
   enum-known-p2 c = search needs
@@ -256,7 +254,9 @@ module _ (t : ℕ) where
   add-walk-3 c = search needs
 
   walk-requires-3 : lts.Need-walk-requires-3 (claims t) (here t) reads.Post
-  walk-requires-3 c κs = asks (calls (end1 (c .before))) true false (painted2 (c .before) .size)
+  walk-requires-3 c κs =
+      let d = calls (end1 (c .before)) in
+      asks d _ _ (painted2 (c .before) .size) (omega (arith, start d .pre)) (omega (arith, start d .pre))
 
   enum-known-p3 : lts.Need-enum-known-p3 (claims t) (here t) reads.Post
   enum-known-p3 c = search needs
@@ -280,7 +280,8 @@ module _ (t : ℕ) where
 
   painted3 : (c : End3)
       → let a = start (calls (end1 (end2 c))) .args in
-      PaintedTree (a .x) (a .y + a .side / 2) (a .side / 2) (a .t .now) (p2 (end2 c)) (after2 (end2 c)) (after3 c)
+      let after = c .before .before .before .walk3 .last .1 .1 .1 .1 .1 .1 .1 .0 in
+      PaintedTree (a .x) (a .y + a .side / 2) (a .side / 2) (a .t .now) (p2 (end2 c)) (after2 (end2 c)) after
   painted3 c = c .before .before .before .walk3 .ensures .painted (p3 c) (c .before .p3 .given .1)
 
   add-walk-4 : lts.Need-add-walk-4 (claims t) (here t) reads.Post
@@ -290,7 +291,9 @@ module _ (t : ℕ) where
   add-walk-5 c = omega (arith, start (calls (end1 (end2 c))) .pre .1 .0)
 
   walk-requires-4 : lts.Need-walk-requires-4 (claims t) (here t) reads.Post
-  walk-requires-4 c κs = asks (calls (end1 (end2 (c .before)))) false false (painted3 (c .before) .size)
+  walk-requires-4 c κs =
+      let d = calls (end1 (end2 (c .before))) in
+      asks d _ _ (painted3 (c .before) .size) (omega (arith, start d .pre)) (omega (arith, start d .pre))
 
   enum-known-p4 : lts.Need-enum-known-p4 (claims t) (here t) reads.Post
   enum-known-p4 c = search needs
