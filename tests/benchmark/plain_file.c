@@ -32,20 +32,21 @@ static inline int64_t number_at(const uint8_t *at) {
   return n < (int64_t)1 << 39 ? n : n - ((int64_t)1 << 40);
 }
 
-/* How many of the first n functions of a row are marked. */
-static inline size_t count_row(struct marks m, size_t e, size_t n) {
-  size_t found = 0;
-  for (size_t a = 0; a < n; a += 2, m = next_two(m, e)) {
-    found += m.even & 1;
-    if (a + 1 < n) found += m.odd & 1;
-  }
-  return found;
+/* How many of the first n functions of a word are marked, of which one stands at every e-th place. */
+static inline size_t count_word(uint64_t word, size_t e, size_t n) {
+  static const uint64_t every[9] = {
+    [1] = UINT64_MAX, [2] = 0x5555555555555555, [4] = 0x1111111111111111, [8] = 0x0101010101010101
+  };
+  return (size_t)__builtin_popcountll(word & every[e] & (((uint64_t)1 << n * e) - 1));
 }
 
 /* How many functions of a level are active. */
 static size_t active_count(const struct regions *regions, size_t w, size_t h, size_t level) {
   size_t n = functions(w, level), m = functions(h, level), found = 0;
-  for (size_t b = 0; b < m; b++) found += count_row(active_row(regions, w, h, level, b), eighths(level), n);
+  for (size_t b = 0; b < m; b++) {
+    struct marks row = active_row(regions, w, h, level, b);
+    found += count_word(row.even, eighths(level), (n + 1) / 2) + count_word(row.odd, eighths(level), n / 2);
+  }
   return found;
 }
 
