@@ -32,23 +32,28 @@ static inline int64_t number_at(const uint8_t *at) {
   return n < (int64_t)1 << 39 ? n : n - ((int64_t)1 << 40);
 }
 
+/* How many of the first n functions of a word are marked, of which one stands at every e-th place. */
+static inline size_t count_word(uint64_t word, size_t e, size_t n) {
+  static const uint64_t every[9] = {
+    [1] = UINT64_MAX, [2] = 0x5555555555555555, [4] = 0x1111111111111111, [8] = 0x0101010101010101
+  };
+  return (size_t)__builtin_popcountll(word & every[e] & (((uint64_t)1 << n * e) - 1));
+}
+
 /* How many functions of a level are active. */
-static size_t active_count(level_map map, size_t w, size_t h, size_t level) {
-  minima_rows minima;
-  uint8_t least[ROW];
-  size_t n = functions(w, level), rows = functions(h, level), found = 0;
-  row_minima(map, w, level, minima);
-  for (size_t b = 0; b < rows; b++) {
-    support_minima(minima, h, level, b, least);
-    for (size_t a = 0; a < n; a++) found += least[a] == level;
+static size_t active_count(const struct regions *regions, size_t w, size_t h, size_t level) {
+  size_t n = functions(w, level), m = functions(h, level), found = 0;
+  for (size_t b = 0; b < m; b++) {
+    struct marks row = active_row(regions, w, h, level, b);
+    found += count_word(row.even, eighths(level), (n + 1) / 2) + count_word(row.odd, eighths(level), n / 2);
   }
   return found;
 }
 
 /* The field of a level at a position, and the limit of the coefficients in it. */
-static uint8_t judge_level(const struct file *file, size_t at, level_map map, size_t w, size_t h, size_t level,
-                           size_t *end) {
-  size_t count = active_count(map, w, h, level), n = NUMBER_BYTES * count;
+static uint8_t judge_level(const struct file *file, size_t at, const struct regions *regions, size_t w, size_t h,
+                           size_t level, size_t *end) {
+  size_t count = active_count(regions, w, h, level), n = NUMBER_BYTES * count;
   uint8_t cause = field_at(file, at, (uint8_t)(TAG_LEVEL_0 + level), n, n, end);
   if (cause) return cause;
   const uint8_t *body = file->bytes + at + HEAD;
@@ -57,43 +62,51 @@ static uint8_t judge_level(const struct file *file, size_t at, level_map map, si
   return 0;
 }
 
-/* All fields in byte order: the map of levels, and the positions after the tree's field and after the last. */
-static uint8_t judge(const struct file *file, level_map map, size_t *tree_end, size_t *last) {
+/* All fields in byte order: the regions, and the positions after the tree's field and after the last. */
+static uint8_t judge(const struct file *file, struct regions *regions, size_t *tree_end, size_t *last) {
   uint8_t cause = field_at(file, 0, TAG_SIDES, 2, 2, last);
   if (cause) return cause;
   size_t w = file->bytes[HEAD], h = file->bytes[HEAD + 1];
   if (!good_sides(w, h)) return BAD_SIDE;
   if ((cause = field_at(file, TREE_AT, TAG_TREE, 1, TREE_MAX, tree_end))) return cause;
-  if ((cause = regions(w, h, file->bytes + TREE_BODY, *tree_end - TREE_BODY, map))) return cause;
+  if ((cause = region_cause(w, h, file->bytes + TREE_BODY, *tree_end - TREE_BODY, regions))) return cause;
   *last = *tree_end;
   for (size_t level = 0; level < LEVELS; level++)
-    if ((cause = judge_level(file, *last, map, w, h, level, last))) return cause;
+    if ((cause = judge_level(file, *last, regions, w, h, level, last))) return cause;
   return 0;
 }
 
-/* A level's part of the coefficients: the active ones take the body's numbers in slice order, the others 0. */
-static void load_level(const uint8_t *body, level_map map, size_t w, size_t h, size_t level, int64_t *out) {
-  minima_rows minima;
-  uint8_t least[ROW];
-  size_t n = functions(w, level), rows = functions(h, level);
-  row_minima(map, w, level, minima);
-  for (size_t b = 0; b < rows; b++, out += n) {
-    support_minima(minima, h, level, b, least);
-    for (size_t a = 0; a < n; a++) {
-      out[a] = 0;
-      if (least[a] != level) continue;
-      out[a] = number_at(body);
-      body += NUMBER_BYTES;
-    }
+/* The body's next number for a marked function, 0 for another. */
+static inline int64_t take(const uint8_t **body, bool here) {
+  if (!here) return 0;
+  int64_t number = number_at(*body);
+  *body += NUMBER_BYTES;
+  return number;
+}
+
+/* Loads a row from a level's body, and returns the position of the first number left. */
+static inline const uint8_t *load_row(const uint8_t *body, struct marks m, size_t e, size_t n, int64_t *out) {
+  for (size_t a = 0; a < n; a += 2, m = next_two(m, e)) {
+    out[a] = take(&body, m.even & 1);
+    if (a + 1 < n) out[a + 1] = take(&body, m.odd & 1);
   }
+  return body;
+}
+
+/* A level's part of the coefficients: the active ones take the body's numbers in slice order, the others 0. */
+static void load_level(const uint8_t *body, const struct regions *regions, size_t w, size_t h, size_t level,
+                       int64_t *out) {
+  size_t n = functions(w, level), m = functions(h, level);
+  for (size_t b = 0; b < m; b++, out += n)
+    body = load_row(body, active_row(regions, w, h, level, b), eighths(level), n, out);
 }
 
 uint8_t plain_read_file(const uint8_t *bytes, size_t len, uint8_t *tree_out, size_t tree_out_len, int64_t *numbers_out,
                         size_t numbers_out_len, size_t *length, size_t *w, size_t *h) {
   struct file file = {bytes, len};
-  level_map map;
+  struct regions regions;
   size_t tree_end, last;
-  uint8_t cause = judge(&file, map, &tree_end, &last);
+  uint8_t cause = judge(&file, &regions, &tree_end, &last);
   if (cause) return cause;
   size_t wide = bytes[HEAD], high = bytes[HEAD + 1], n = tree_end - TREE_BODY;
   if (last < len) return BYTES_AFTER;
@@ -101,7 +114,7 @@ uint8_t plain_read_file(const uint8_t *bytes, size_t len, uint8_t *tree_out, siz
   if (tree_out_len < n) return TREE_OUTPUT_SHORT;
   memcpy(tree_out, bytes + TREE_BODY, n);
   for (size_t level = 0, at = tree_end; level < LEVELS; level++) {
-    load_level(bytes + at + HEAD, map, wide, high, level, numbers_out + start(wide, high, level));
+    load_level(bytes + at + HEAD, &regions, wide, high, level, numbers_out + start(wide, high, level));
     at += HEAD + length_at(bytes + at);
   }
   *length = n;

@@ -1,4 +1,4 @@
-/* What the files of the plain C program share: refusal numbers, the map of levels, windows of quarters, the checks. */
+/* What the files of the plain C program share: refusal numbers, regions as rows of bits, marks, the checks. */
 #ifndef PLAIN_INSIDE_H
 #define PLAIN_INSIDE_H
 
@@ -13,21 +13,38 @@ enum {
   BAD_TARIFF, FILE_ENDS, BAD_TAG, BAD_FIELD, BYTES_AFTER, BAD_OUTPUT, TREE_OUTPUT_SHORT
 };
 
-/* The tree covers 32 by 32 quarters; a level has at most 67 functions along a side, kept in rows of 80. */
-enum { LEVELS = 4, QUARTERS = 32, ROW = 80, LEAF_MAX = 3, SPLIT = 4, TREE_MAX = 1365 };
+/* The tree covers 32 by 32 quarters. */
+enum { LEVELS = 4, QUARTERS = 32, LEAF_MAX = 3, SPLIT = 4, TREE_MAX = 1365 };
 
-typedef uint8_t level_map[QUARTERS][QUARTERS];
-typedef uint8_t minima_rows[QUARTERS][ROW];
+/* The regions of levels 1 to 3: bit q of row[l][r] is set where quarter square (q, r) has level l + 1 or more. */
+struct regions {
+  uint32_t row[LEVELS - 1][QUARTERS];
+};
 
 /* A box of quarters, low corner first. */
 struct box {
   size_t u0, v0, u1, v1;
 };
 
-/* The quarters under a cut support along one side, from low to before high. */
-struct window {
-  size_t low, high;
+/* Marks of the functions of one row of a level, where a cell's side is e eighths: function a stands at place
+   a / 2 * e of the word for its parity. */
+struct marks {
+  uint64_t even, odd;
 };
+
+static inline bool marked(struct marks m, size_t a, size_t e) {
+  return (a % 2 ? m.odd : m.even) >> (a / 2 * e) & 1;
+}
+
+/* Moves the marks of the next two functions to the lowest places. */
+static inline struct marks next_two(struct marks m, size_t e) {
+  return (struct marks){m.even >> e, m.odd >> e};
+}
+
+/* The side of a level's cells in eighths of a level 0 cell. */
+static inline size_t eighths(size_t level) {
+  return 8 >> level;
+}
 
 static inline size_t functions(size_t n, size_t level) {
   return (n << level) + 3;
@@ -42,22 +59,6 @@ static inline size_t start(size_t w, size_t h, size_t level) {
   size_t at = 0;
   for (size_t k = 0; k < level; k++) at += places(w, h, k);
   return at;
-}
-
-/* The window of function a of a level, in eighths first: a level 3 edge may halve a quarter. */
-static inline struct window window_of(size_t n, size_t level, size_t a) {
-  size_t cell = 8 >> level;
-  size_t low = a > 3 ? (a - 3) * cell : 0;
-  size_t high = (a + 1) * cell < 8 * n ? (a + 1) * cell : 8 * n;
-  return (struct window){low / 2, (high + 1) / 2};
-}
-
-/* The least of the levels at places low to high - 1 of a row. */
-static inline uint8_t least_in(const uint8_t *row, struct window at) {
-  uint8_t least = LEAF_MAX;
-  for (size_t x = at.low; x < at.high; x++)
-    if (row[x] < least) least = row[x];
-  return least;
 }
 
 static inline bool good_sides(size_t w, size_t h) {
@@ -75,17 +76,35 @@ static inline bool bad_box(size_t w, size_t h, const struct box *box) {
   return box->u1 <= box->u0 || box->v1 <= box->v0 || box->u1 > 4 * w || box->v1 > 4 * h;
 }
 
-/* The least levels along u under each function of the level, in each row of the sheet. */
-void row_minima(level_map map, size_t w, size_t level, minima_rows minima);
+/* The square of this side at (x, y) shares area with the box. */
+static inline bool meets(const struct box *box, size_t x, size_t y, size_t side) {
+  return x < box->u1 && box->u0 < x + side && y < box->v1 && box->v0 < y + side;
+}
 
-/* The least levels under the supports of the functions (0, b), (1, b), ... of the level. */
-void support_minima(minima_rows minima, size_t h, size_t level, size_t b, uint8_t least[ROW]);
+/* The square lies in the box. */
+static inline bool covers(const struct box *box, size_t x, size_t y, size_t side) {
+  return box->u0 <= x && x + side <= box->u1 && box->v0 <= y && y + side <= box->v1;
+}
 
-/* Causes 1 and 2, with the map of levels where none applies. */
-uint8_t regions(size_t w, size_t h, const uint8_t *tree, size_t len, level_map map);
+/* Four leaves of a byte each are equal. */
+static inline bool four_equal(const uint8_t *leaf) {
+  return leaf[0] == leaf[1] && leaf[0] == leaf[2] && leaf[0] == leaf[3];
+}
 
-/* Causes 1 to 5, with the map of levels where none applies. */
+/* Raises the quarter squares of a box to a level; those above it stay. */
+void raise_box(struct regions *regions, const struct box *box, size_t level);
+
+/* Causes 1 and 2, with the regions where none applies. */
+uint8_t region_cause(size_t w, size_t h, const uint8_t *tree, size_t len, struct regions *regions);
+
+/* Of row b of a level from 1 on, the functions whose cut support lies in the region of their level. */
+struct marks inside_row(const struct regions *regions, size_t w, size_t h, size_t level, size_t b);
+
+/* The active functions of row b of a level. */
+struct marks active_row(const struct regions *regions, size_t w, size_t h, size_t level, size_t b);
+
+/* Causes 1 to 5, with the regions where none applies. */
 uint8_t check(size_t w, size_t h, const uint8_t *tree, size_t tree_len, const int64_t *numbers, size_t numbers_len,
-              level_map map);
+              struct regions *regions);
 
 #endif

@@ -12,23 +12,11 @@ static size_t cell_of(size_t n, size_t level, size_t u) {
   return cell < last ? cell : last;
 }
 
-/* The least levels under the functions (a, b) to (a + 3, b + 3): along u in the rows that matter, then along v. */
-static void near_least(level_map map, size_t w, size_t h, size_t level, size_t a, size_t b, uint8_t least[4][4]) {
-  uint8_t columns[4][QUARTERS];
-  size_t from = window_of(h, level, b).low, to = window_of(h, level, b + 3).high;
-  for (size_t k = 0; k < 4; k++) {
-    struct window across = window_of(w, level, a + k);
-    for (size_t r = from; r < to; r++) columns[k][r] = least_in(map[r], across);
-  }
-  for (size_t k = 0; k < 4; k++)
-    for (size_t l = 0; l < 4; l++) least[k][l] = least_in(columns[k], window_of(h, level, b + l));
-}
-
-/* A patch's own coefficients, read off its level's part of the slice. */
-static patch own(const int64_t *part, size_t n, size_t a, size_t b) {
+/* The patch of level 0: its own coefficients, in rows of n. */
+static patch coarsest(const int64_t *numbers, size_t n, size_t a, size_t b) {
   patch p;
   for (size_t k = 0; k < 4; k++)
-    for (size_t l = 0; l < 4; l++) p.at[k][l] = part[(b + l) * n + a + k];
+    for (size_t l = 0; l < 4; l++) p.at[k][l] = numbers[(b + l) * n + a + k];
   return p;
 }
 
@@ -44,16 +32,16 @@ static patch along(patch p, size_t half) {
 }
 
 /* The patch of a level from the one above: own coefficients where the support lies in the level's region. */
-static patch finer(patch coarse, const int64_t *numbers, level_map map, size_t w, size_t h, size_t level, size_t u,
-                   size_t v) {
-  uint8_t least[4][4];
-  size_t a = cell_of(w, level, u), b = cell_of(h, level, v);
-  patch mine = own(numbers + start(w, h, level), functions(w, level), a, b);
+static patch finer(patch coarse, const int64_t *numbers, const struct regions *regions, size_t w, size_t h,
+                   size_t level, size_t u, size_t v) {
+  size_t a = cell_of(w, level, u), b = cell_of(h, level, v), n = functions(w, level);
+  const int64_t *own = numbers + start(w, h, level) + b * n + a;
   patch next = along(along(coarse, a % 2), b % 2);
-  near_least(map, w, h, level, a, b, least);
-  for (size_t k = 0; k < 4; k++)
-    for (size_t l = 0; l < 4; l++)
-      if (least[k][l] >= level) next.at[k][l] = mine.at[k][l];
+  for (size_t l = 0; l < 4; l++, own += n) {
+    struct marks inside = inside_row(regions, w, h, level, b + l);
+    for (size_t k = 0; k < 4; k++)
+      if (marked(inside, a + k, eighths(level))) next.at[k][l] = own[k];
+  }
   return next;
 }
 
@@ -81,12 +69,12 @@ static int64_t evaluate(patch p, size_t r, size_t s) {
 /* The exact reading over D = 36 × 2^42 after causes 1 to 6. */
 static uint8_t read_point(size_t w, size_t h, const uint8_t *tree, size_t tree_len, const int64_t *numbers,
                           size_t numbers_len, size_t u, size_t v, int64_t *numerator) {
-  level_map map;
-  uint8_t cause = check(w, h, tree, tree_len, numbers, numbers_len, map);
+  struct regions regions;
+  uint8_t cause = check(w, h, tree, tree_len, numbers, numbers_len, &regions);
   if (cause) return cause;
   if (u > 128 * w || v > 128 * h) return OFF_SHEET;
-  patch p = own(numbers, functions(w, 0), cell_of(w, 0, u), cell_of(h, 0, v));
-  for (size_t level = 1; level < LEVELS; level++) p = finer(p, numbers, map, w, h, level, u, v);
+  patch p = coarsest(numbers, functions(w, 0), cell_of(w, 0, u), cell_of(h, 0, v));
+  for (size_t level = 1; level < LEVELS; level++) p = finer(p, numbers, &regions, w, h, level, u, v);
   *numerator = evaluate(p, u - 16 * cell_of(w, 3, u), v - 16 * cell_of(h, 3, v));
   return 0;
 }
