@@ -17,7 +17,7 @@ use Rattle.activity.specs.declared.Marks.{Marks}
 use Rattle.activity.proofs.MarkLaws.{rowsWritten}
 use Rattle.coefficients.proofs.Parts.{part, part-length, part-at}
 use Rattle.carry.specs.Cleared.{keptIf, rowClearedAt, rowCleared, levelClearedAt, levelCleared}
-use Rattle.carry.proofs.LevelLaws.{replaced, unwritten, mapped, Below, level-more}
+use Rattle.carry.proofs.LevelLaws.{replaced, unwritten, Below, level-more}
 
 pub row-cleared : (W H L n b e : ℕ) (rows : List ℕ) (m : Marks) (before out : List ℤ) → n ≡ functions W L
     → e ≡ eighths L → ActiveRow W H L b (levelsOf rows) m → b * n + n ≤ length out

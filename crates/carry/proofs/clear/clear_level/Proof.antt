@@ -1,6 +1,6 @@
 -- Before each turn the rows below b are cleared.
 use mathlib.Core.Path.{_≡_, sym, _∙_}
-use Prim.Native.Nat.{_≤_, _<_, _+_, _-_, _*_}
+use Prim.Native.Nat.{_≤_, _+_, _-_, _*_}
 use native.Mathlib.Nat.{le-add-right}
 use native.Mathlib.Omega.{arith}
 use borrow.Author.Needs.{needs}

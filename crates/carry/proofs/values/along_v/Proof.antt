@@ -1,13 +1,11 @@
 -- Before each turn the sums of the columns below c are written.
-use mathlib.Core.Path.{_≡_, refl, subst, _∙_}
-use Prim.Native.Nat.{_≤_, _<_, _-_, _+_, _*_, _/_, _%_}
+use mathlib.Core.Path.{_∙_}
+use Prim.Native.Nat.{_≤_, _-_, _+_, _/_, _%_}
 use native.Mathlib.Nat.{mul-le-mul-right}
 use native.Mathlib.Omega.{arith}
-use borrow.Author.Needs.{needs, sfits-of}
-use lib.ListN.{length}
+use borrow.Author.Needs.{sfits-of}
 use mir.Syntax.{w64}
 use mir.ValLaws.{toZ-ofZ}
-use Rattle.carry.specs.Carried.{AlongV}
 use Rattle.carry.proofs.ChildLaws.{Sums, sums-none, sums-more, reads-below}
 use Rattle.carry.proofs.values.along_v.Statement.{statement}
 use Rattle.carry.proofs.values.along_v.Tie as tie
