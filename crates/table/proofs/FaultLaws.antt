@@ -14,7 +14,7 @@ use Rattle.finite.proofs.Table.{place-below}
 use Rattle.surface.specs.Sheet.{functions}
 use Rattle.surface.specs.Support.{active}
 use Rattle.surface.specs.Table.{limit, places, start, coefficients}
-use Rattle.coefficients.proofs.Parts.{part, part-length, part-at}
+use Rattle.coefficients.proofs.Parts.{part, part-length, part-at, level-at}
 use Rattle.table.specs.Faults.{Test, holdsAt, holdsOn, partHoldsAt, partHolds}
 
 -- ---- flags
@@ -59,29 +59,18 @@ limit-below L h =
     let power : 64 ^ L ≤ 262144 = pow-le-pow-right {n = 64} (omega arith) {i = L} {j = 3} h in
     omega (arith, mul-le-mul-left 32000 power)
 
--- a test of a row's coefficients, by which functions are marked, is the test at the functions of row b
-pub row-holds : (W H L b n : ℕ) (cs : List ℤ) (lev : ℕ → ℕ → ℕ) (mark : ℕ → Bool) → n ≡ functions W L
-    → b * n + n ≤ length cs → ((a : ℕ) → a < functions W L → mark a ≡ active W H lev L a b) → (p : Test)
-    → every (length (part (b * n) n cs)) (λ a. p L (mark a) (getD (part (b * n) n cs) a (pos 0)))
+-- a test of a row's coefficients is the test at the functions of row b
+pub row-holds : (W H L b n : ℕ) (cs : List ℤ) (lev : ℕ → ℕ → ℕ) → n ≡ functions W L → b * n + n ≤ length cs
+    → (p : Test)
+    → every (length (part (b * n) n cs)) (λ a. p L (active W H lev L a b) (getD (part (b * n) n cs) a (pos 0)))
     ≡ every (functions W L) (λ a. partHoldsAt p W H lev cs L a b)
-row-holds W H L b n cs lev mark columns fits marked p =
-    ap (λ k. every k (λ a. p L (mark a) (getD (part (b * n) n cs) a (pos 0))))
+row-holds W H L b n cs lev columns fits p =
+    ap (λ k. every k (λ a. p L (active W H lev L a b) (getD (part (b * n) n cs) a (pos 0))))
     (part-length (b * n) n cs fits ∙ columns)
-    ∙ every-cong (functions W L) (λ a. p L (mark a) (getD (part (b * n) n cs) a (pos 0)))
+    ∙ every-cong (functions W L) (λ a. p L (active W H lev L a b) (getD (part (b * n) n cs) a (pos 0)))
     (λ a. partHoldsAt p W H lev cs L a b)
-    (λ a ha. ap₂ (p L) (marked a ha)
+    (λ a ha. ap (p L (active W H lev L a b))
     (part-at (b * n) n cs a (subst (λ k. a < k) (sym columns) ha) ∙ ap (λ k. getD cs (b * k + a) (pos 0)) columns))
-
--- a coefficient of a level stands in the level's part
-pub level-at : (W H L first size : ℕ) (cs : List ℤ) → first ≡ start W H L → size ≡ places W H L → (a b : ℕ)
-    → a < functions W L → b < functions H L
-    → getD (part first size cs) (b * functions W L + a) (pos 0) ≡ coefficients W H cs L a b
-unfolding coefficients
-level-at W H L first size cs begins sized a b ha hb =
-    part-at first size cs (b * functions W L + a)
-    (subst (λ k. b * functions W L + a < k) (mul-comm (functions H L) (functions W L) ∙ sym sized)
-    (place-below (functions W L) (functions H L) a b ha hb))
-    ∙ ap (λ k. getD cs (k + (b * functions W L + a)) (pos 0)) begins
 
 -- a test of the level's part is the test of the level's coefficients in the slice
 level-holds : (W H L first size : ℕ) (lev : ℕ → ℕ → ℕ) (cs : List ℤ) → first ≡ start W H L

@@ -1,5 +1,5 @@
 -- The faults of one coefficient more, one law for each way through the loop of `row_faults`.
-use mathlib.Core.Path.{_≡_, refl}
+use mathlib.Core.Path.{_≡_, refl, sym, ap, _∙_}
 use mathlib.Core.Bool.{Bool, true, false, not, and-true, and-false, or-true}
 use mathlib.Core.List.{List}
 use Prim.Native.Nat.{ℕ, _+_, _<_}
@@ -8,12 +8,13 @@ use native.Mathlib.Omega.{arith}
 use borrow.Author.Tests.{le-leb, lt-leb, eq-eqb, ne-eqb}
 use lib.IntN.{ℤ, pos, natAbs, _-ℤ_}
 use lib.Signed.{ltZ}
-use lib.ListN.{getD}
+use lib.ListN.{length, getD}
 use mir.Syntax.{w64}
 use mir.Val.{SFits, ofZ, toZ}
 use Rattle.finite.specs.Range.{every}
+use Rattle.finite.proofs.Tests.{every-intro, every-cong}
 use Rattle.coefficients.proofs.FaultLaws.{zero-of, of-zero, above, below, between}
-use Rattle.table.specs.Faults.{FaultsBelow}
+use Rattle.table.specs.Faults.{keepsLimit, keepsZero, FaultsBelow, RowFaults}
 
 -- ---- a test at each number, at one number more
 
@@ -75,3 +76,30 @@ module _ {k m : ℕ} {active : ℕ → Bool} {row : List ℤ} {over stray : Bool
             limits = more k _ (h .limits) (rw (here, le-leb (natAbs (coef row k)) m (between s e f t u)));
             zeros = more k _ (h .zeros) (rw here);
           }
+
+-- ---- whole rows
+
+-- a row of zeros has no fault
+pub zero-row : (m : ℕ) (active : ℕ → Bool) (row : List ℤ)
+    → ((k : ℕ) → k < length row → natAbs (getD row k (pos 0)) ≡ 0) → RowFaults m active row false false
+zero-row m active row zeros =
+    record {
+      limits = sym (ap not (every-intro (length row) (λ a. keepsLimit m (active a) (getD row a (pos 0)))
+          (λ k l. rw (le-leb (natAbs (coef row k)) m (omega (arith, zeros k l)), or-true))));
+      zeros = sym (ap not (every-intro (length row) (λ a. keepsZero (active a) (getD row a (pos 0)))
+          (λ k l. rw (eq-eqb (natAbs (coef row k)) 0 (zeros k l), or-true))));
+    }
+
+-- the faults by marks that say which functions are active
+pub same-marks : (m : ℕ) (mark active : ℕ → Bool) (row : List ℤ) {over stray : Bool}
+    → ((k : ℕ) → k < length row → mark k ≡ active k) → RowFaults m mark row over stray
+    → RowFaults m active row over stray
+same-marks m mark active row same f =
+    record {
+      limits = f .limits
+          ∙ ap not (every-cong (length row) (λ a. keepsLimit m (mark a) (coef row a))
+          (λ a. keepsLimit m (active a) (coef row a)) (λ k l. ap (λ t. keepsLimit m t (coef row k)) (same k l)));
+      zeros = f .zeros
+          ∙ ap not (every-cong (length row) (λ a. keepsZero (mark a) (coef row a)) (λ a. keepsZero (active a) (coef row a))
+          (λ k l. ap (λ t. keepsZero t (coef row k)) (same k l)));
+    }

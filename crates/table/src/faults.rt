@@ -1,12 +1,14 @@
 // Faults of a row of coefficients, of a level's and of a table's: an active one past its limit, a passive one that is
 // not 0.
 ghost use mathlib.Core.Path.{_≡_};
-ghost use mathlib.Core.Bool.{_||_};
+ghost use mathlib.Core.Bool.{true, _||_};
 ghost use Prim.Native.Nat.{ℕ, _*_, _≤_, _<_};
-ghost use lib.IntN.{pos};
-ghost use lib.ListN.{length};
+ghost use lib.IntN.{pos, natAbs};
+ghost use lib.ListN.{length, getD};
+ghost use Rattle.surface.specs.Sheet.{functions};
+ghost use Rattle.surface.specs.Support.{active};
 ghost use Rattle.surface.specs.Table.{places, slots};
-ghost use Rattle.rows.specs.Rows.{Nested};
+ghost use Rattle.rows.specs.Rows.{levelsOf, Nested};
 ghost use Rattle.activity.specs.Marks.{marked};
 ghost use Rattle.table.specs.Faults.{RowFaults, LevelFaults, TableFaults};
 
@@ -55,6 +57,48 @@ fn row_faults(row: &[i64], marks: activity::Marks, e: usize, limit: i64) -> Faul
     Faults { over, stray }
 }
 
+// Whether all numbers of a row are 0.
+fn only_zeros(row: &[i64]) -> bool
+    ensures { λ r. ⌜ (r ≡ true → ((a : ℕ) → a < length (now (row .entry))
+        → natAbs (getD (now (row .entry)) a (pos 0)) ≡ 0)) ⌝ }
+{
+    let n = row.len();
+    let mut a = 0;
+    while a < n {
+        if row[a] != 0 {
+            return false;
+        }
+        a += 1;
+    }
+    true
+}
+
+// The faults of row b of a level. A row of zeros has none, whichever of its functions are active.
+fn faults_of_row(
+    row: &[i64],
+    rows: &[u32; 96],
+    w: usize,
+    h: usize,
+    level: usize,
+    b: usize,
+    limit: i64,
+) -> Faults
+    requires { ⌜ (w ≤ 8) × (h ≤ 8) × (level ≤ 3) × (b < functions h level) × Nested (now rows)
+        × (length (now row) ≡ functions w level) × ((m : ℕ) × (limit ≡ pos m) × (m < 9000000000)) ⌝ }
+    ensures { λ r. ⌜ ((m : ℕ) → limit ≡ pos m
+        → RowFaults m (λ a. active w h (levelsOf (now (rows .entry))) level a b) (now (row .entry)) (r .over)
+        (r .stray)) ⌝ }
+{
+    if only_zeros(row) {
+        return Faults {
+            over: false,
+            stray: false,
+        };
+    }
+    let marks = activity::active_row(rows, w, h, level, b);
+    row_faults(row, marks, activity::eighths(level), limit)
+}
+
 // The faults of a level, given its part of the coefficients and the regions.
 fn level_faults(part: &[i64], rows: &[u32; 96], w: usize, h: usize, level: usize) -> Faults
     requires { ⌜ (w ≤ 8) × (h ≤ 8) × (level ≤ 3) × (length (now part) ≡ places w h level) × Nested (now rows) ⌝ }
@@ -63,15 +107,13 @@ fn level_faults(part: &[i64], rows: &[u32; 96], w: usize, h: usize, level: usize
     let n = coefficients::functions(w, level);
     let m = coefficients::functions(h, level);
     let bound = coefficients::limit(level);
-    let e = activity::eighths(level);
     let mut over = false;
     let mut stray = false;
     let mut b = 0;
     while b < m {
-        let marks = activity::active_row(rows, w, h, level, b);
         let from = b * n;
         let to = from + n;
-        let f = row_faults(&part[from..to], marks, e, bound);
+        let f = faults_of_row(&part[from..to], rows, w, h, level, b, bound);
         over = either(over, f.over);
         stray = either(stray, f.stray);
         b += 1;
