@@ -25,7 +25,7 @@
    Threads, stack and memory
      The library has no state: what a call does depends on what it is lent and on nothing else. Any number of calls may
      run at a time as long as none writes what another reads or writes; what is only read may be shared between
-     threads. No call allocates, takes a lock or touches a file. None takes more than 16 KiB of stack, which is
+     threads. No call allocates, takes a lock or touches a file. None takes more than 8 KiB of stack, which is
      measured by the benchmark and held by the gate, not proved. */
 #ifndef KILN_H
 #define KILN_H

@@ -6,14 +6,16 @@ from __future__ import annotations
 
 from typing import Callable, Dict, List, NamedTuple
 
-from measure import BEYOND, CALLS, LARGEST, LARGEST_FILE, READINGS, Figures, calls_on, counted_on
+from measure import BEYOND, CALLS, LARGEST, LARGEST_FILE, READINGS, UNREFINED, Figures, calls_on, counted_on
 
 RATIO = 1.25
-READING = 300_000
-INSERTION = 700_000
-FILE_READING = 600_000
-READING_BEYOND_CHECK = 10_000
-STACK = 16_384
+CHECK = 150_000
+CHECK_UNREFINED = 64_000
+INSERTION = 450_000
+FILE_READING = 290_000
+READING_BEYOND_CHECK = 6_000
+READING = CHECK + READING_BEYOND_CHECK
+STACK = 8_192
 CORNERS = 5.0
 
 
@@ -51,8 +53,10 @@ def corners(figures: Figures) -> Dict[str, float]:
 BARS = {
     "ratio": Bar("instructions over those of the C program, of a call and of an exact reading beyond the table check",
                  RATIO, ratios),
-    "reading": Bar(f"instructions of the table check and of a reading, {LARGEST}", READING,
-                   counts(LARGEST, "table_cause", *READINGS)),
+    "check": Bar(f"instructions of the table check, {LARGEST}", CHECK, counts(LARGEST, "table_cause")),
+    "unrefined": Bar(f"instructions of the table check, {UNREFINED}", CHECK_UNREFINED,
+                     counts(UNREFINED, "table_cause")),
+    "reading": Bar(f"instructions of a reading, {LARGEST}", READING, counts(LARGEST, *READINGS)),
     "insertion": Bar(f"instructions of an insertion, {LARGEST}", INSERTION, counts(LARGEST, "insert")),
     "file reading": Bar("instructions of reading the largest file", FILE_READING, counts(LARGEST_FILE, "read_file")),
     "beyond": Bar("instructions of an exact reading beyond the table check", READING_BEYOND_CHECK, beyond),

@@ -14,7 +14,7 @@ from typing import Callable, Iterator, List, Tuple
 sys.dont_write_bytecode = True
 
 import bars
-from measure import BEYOND, CALLS, LARGEST, LARGEST_FILE, READINGS, ROOT, Figures, Measured
+from measure import BEYOND, CALLS, LARGEST, LARGEST_FILE, READINGS, UNREFINED, ROOT, Figures, Measured
 from measure import all_figures, calls_on, counted_on, table_names
 
 PAGE, HEADER = ROOT / "docs/BENCHMARKS.md", ROOT / "include/kiln.h"
@@ -60,7 +60,9 @@ def pushes() -> Iterator[Push]:
             yield "ratio", f"{BEYOND}, {table}", partial(by_ratio, table, BEYOND)
             yield "beyond", table, partial(by_count, table, BEYOND, bars.READING_BEYOND_CHECK)
     for name, table, call, bar in (
-            *(("reading", LARGEST, call, bars.READING) for call in ("table_cause", *READINGS)),
+            ("check", LARGEST, "table_cause", bars.CHECK),
+            ("unrefined", UNREFINED, "table_cause", bars.CHECK_UNREFINED),
+            *(("reading", LARGEST, call, bars.READING) for call in READINGS),
             ("insertion", LARGEST, "insert", bars.INSERTION),
             ("file reading", LARGEST_FILE, "read_file", bars.FILE_READING)):
         yield name, f"{CALLS[call]}, {table}", partial(by_count, table, call, bar)

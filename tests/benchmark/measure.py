@@ -29,7 +29,7 @@ CALLS = {"table_cause": "Table check", "least_level": "Least level", "activity":
          "set": "Set", "insert": "Insertion", **READINGS, "read_file": "File reading"}
 BEYOND = "Exact reading beyond the table check"
 SIZES, TURNS = (1, 4, 8), 3
-LARGEST, LARGEST_FILE = "8 by 8, fully split", "8 by 8, all of level 3"
+LARGEST, UNREFINED, LARGEST_FILE = "8 by 8, fully split", "8 by 8, unrefined", "8 by 8, all of level 3"
 
 # Callgrind counts each repetition of a rep instruction, so fills and copies are made without: by glibc, and in C.
 NO_REP = {

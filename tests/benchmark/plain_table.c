@@ -15,6 +15,13 @@ static inline void row_faults(const int64_t *row, size_t n, struct marks m, size
   }
 }
 
+/* A row of zeros has no fault, whichever of its functions are active. */
+static inline bool only_zeros(const int64_t *row, size_t n) {
+  for (size_t a = 0; a < n; a++)
+    if (row[a] != 0) return false;
+  return true;
+}
+
 uint8_t check(size_t w, size_t h, const uint8_t *tree, size_t tree_len, const int64_t *numbers, size_t numbers_len,
               struct regions *regions) {
   struct faults faults = {false, false};
@@ -24,7 +31,7 @@ uint8_t check(size_t w, size_t h, const uint8_t *tree, size_t tree_len, const in
   for (size_t level = 0; level < LEVELS; level++) {
     size_t n = functions(w, level), m = functions(h, level);
     for (size_t b = 0; b < m; b++, numbers += n)
-      row_faults(numbers, n, active_row(regions, w, h, level, b), level, &faults);
+      if (!only_zeros(numbers, n)) row_faults(numbers, n, active_row(regions, w, h, level, b), level, &faults);
   }
   /* The lowest number that applies: 4 also where a passive place before it is not 0. */
   return faults.over ? OVER_LIMIT : faults.stray ? PASSIVE_NOT_0 : 0;
