@@ -1,6 +1,6 @@
 // The active functions of a level, counted.
 ghost use mathlib.Core.Path.{_≡_};
-ghost use Prim.Native.Nat.{_*_, _≤_, _<_};
+ghost use Prim.Native.Nat.{_*_, _≤_};
 ghost use Rattle.finite.specs.Range.{count};
 ghost use Rattle.surface.specs.Sheet as Sheet;
 ghost use Rattle.surface.specs.TableFile.{activeCount};

@@ -2,16 +2,23 @@
 pub mod fill;
 
 ghost use mathlib.Core.Path.{_≡_};
+ghost use mathlib.Core.Bool.{_&&_};
 ghost use Prim.Native.Nat.{_≤_};
 ghost use Rattle.surface.specs.Sheet as Sheet;
 ghost use Rattle.surface.specs.Table as Table;
 ghost use lib.IntN.{pos};
 
-// A sheet's side is 1 to 8 cells.
-pub fn good_side(n: usize) -> bool
+fn good_side(n: usize) -> bool
     ensures { λ r. ⌜ r ≡ Sheet.goodSide n ⌝ }
 {
     if 1 <= n { n <= 8 } else { false }
+}
+
+// The sides of a sheet are 1 to 8 cells each.
+pub fn good_sides(w: usize, h: usize) -> bool
+    ensures { λ r. ⌜ r ≡ (Sheet.goodSide w && Sheet.goodSide h) ⌝ }
+{
+    if good_side(w) { good_side(h) } else { false }
 }
 
 // The functions of a level along a side of n cells.

@@ -1,6 +1,6 @@
 -- A file that holds a table: where the fields of its levels stand, and the coefficients loaded from them.
-use mathlib.Core.Path.{_≡_, refl, sym, ap, ap₂, _∙_, subst}
-use mathlib.Core.List.{List, [], _++_, append-assoc, append-nil}
+use mathlib.Core.Path.{_≡_, refl, sym, ap, ap₂, _∙_}
+use mathlib.Core.List.{List, [], _++_, append-assoc}
 use Prim.Native.Nat.{ℕ, suc, _+_, _-_, _*_, _≤_, _<_}
 use native.Mathlib.Nat.{mul-comm}
 use native.Mathlib.Numerals.{add-one}
@@ -55,7 +55,9 @@ module _ (file : List ℕ) (at W H L : ℕ) (t s : List ℕ) (here : drop at fil
 
   pub level-count : length (bodyAt file at (at + 3 + k)) ≡ 5 * activeCount W H (levels t) L
   level-count =
-      ap length level-body ∙ body-length (after L s) (h .field .whole) ∙ eqb-true (lengthAt (after L s)) _ (h .field .fit)
+      ap length level-body
+      ∙ body-length (after L s) (h .field .whole)
+      ∙ eqb-true (lengthAt (after L s)) _ (h .field .fit)
 
   pub level-next : drop (at + 3 + k) file ≡ after (L + 1) s
   unfolding after

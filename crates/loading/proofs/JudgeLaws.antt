@@ -16,14 +16,14 @@ use Rattle.surface.specs.Table.{cause, treeOf, formed, levels}
 use Rattle.surface.specs.TableFile as TableFile
 use Rattle.surface.specs.TableFile.{faulty, body, lengthAt, field, File, declined, fileOr}
 use Rattle.surface.specs.TableFile.{activeCount, allWithin, levelFields, fileContents}
+use Rattle.surface.proofs.Least.{both}
 use Rattle.surface.proofs.TableLaws.{good-side}
 use Rattle.rows.specs.Rows.{levelRows}
 use Rattle.loading.specs.declared.field.Field as F
 use Rattle.loading.specs.declared.field.Field.{Field}
 use Rattle.loading.specs.Fields.{between, bodyAt, fieldAt, ends}
 use Rattle.loading.specs.Levels.{levelLoaded}
-use Rattle.loading.specs.Judged.{sheetW, sheetH, treeIn, Sides, sidesJudged}
-use Rattle.loading.specs.Judged.{Head, headJudged, levelJudged, levelsJudged}
+use Rattle.loading.specs.Judged.{sheetW, sheetH, treeIn, Head, headJudged, levelJudged, levelsJudged}
 
 -- ---- an exact length is one between itself and itself
 
@@ -47,6 +47,11 @@ known file at q e = sym (ap (λ r. fieldAt r file at) q) ∙ e
 
 -- ---- the sides
 
+-- the field of the sides is whole, and both are good
+pub record Sides (file : List ℕ) : Type 0 where
+  pub sides : field 1 (λ n. eqb n 2) file ≡ body (take 2 (drop 3 file)) (drop 5 file)
+  pub good : (goodSide (sheetW file) && goodSide (sheetH file)) ≡ true
+
 module _ (file : List ℕ) where
   first-side : getD (take 2 (drop 3 file)) 0 0 ≡ sheetW file
   first-side = getD-take 2 (drop 3 file) 0 0 (omega arith) ∙ getD-drop 3 file 0 0
@@ -54,19 +59,13 @@ module _ (file : List ℕ) where
   second-side : getD (take 2 (drop 3 file)) 1 0 ≡ sheetH file
   second-side = getD-take 2 (drop 3 file) 1 0 (omega arith) ∙ getD-drop 3 file 1 0
 
-  contents-faulty : (n : ℕ) → faulty n ≡ field 1 (between 2 2) file → fileContents file ≡ declined n
-  unfolding fileContents
-  contents-faulty n e = rw (exact-field 1 2 file, ← e)
-
-  bad-sides : field 1 (λ n. eqb n 2) file ≡ body (take 2 (drop 3 file)) (drop 5 file)
-      → (goodSide (sheetW file) && goodSide (sheetH file)) ≡ false → fileContents file ≡ declined 1
-  unfolding fileContents
-  bad-sides e u = rw (e, first-side, second-side, u)
-
   module _ (r : Field) (e : fieldAt r file 0 ≡ field 1 (between 2 2) file) where
-    pub sides-faulty : (n : ℕ) → r ≡ F.the-variants.Faulty n → sidesJudged r file
-    sides-faulty n q =
-        subst (λ r. sidesJudged r file) (sym q) (contents-faulty n (known file 0 q e))
+    pub sides-faulty : (rows : List ℕ) (n : ℕ) → r ≡ F.the-variants.Faulty n → headJudged r file rows
+    unfolding fileContents
+    sides-faulty rows n q =
+        let f : faulty n ≡ field 1 (between 2 2) file = known file 0 q e in
+        let c : fileContents file ≡ declined n = rw (exact-field 1 2 file, ← f) in
+        subst (λ r. headJudged r file rows) (sym q) c
 
     module _ (end : ℕ) (q : r ≡ F.the-variants.Body end) (k : ends r file 0 2 2) where
       pub sides-size : (end ≡ 5) × (5 ≤ length file)
@@ -80,23 +79,19 @@ module _ (file : List ℕ) where
           ∙ sym (known file 0 q e)
           ∙ ap (λ end. body (bodyAt file 0 end) (drop end file)) (sides-size .0)
 
-      pub sides-good : goodSide (sheetW file) ≡ true → goodSide (sheetH file) ≡ true → sidesJudged r file
-      sides-good u v =
-          subst (λ r. sidesJudged r file) (sym q)
-          (record { size = sides-size .1; sides = found; good-W = u; good-H = v })
+      pub sides-good : true ≡ (goodSide (sheetW file) && goodSide (sheetH file)) → Sides file
+      sides-good u = record { sides = found; good = sym u }
 
-      pub bad-W : goodSide (sheetW file) ≡ false → fileContents file ≡ declined 1
-      bad-W u = bad-sides found (rw u)
+      pub sides-bad : false ≡ (goodSide (sheetW file) && goodSide (sheetH file)) → fileContents file ≡ declined 1
+      unfolding fileContents
+      sides-bad u = rw (found, first-side, second-side, ← u)
 
-      pub bad-H : goodSide (sheetH file) ≡ false → fileContents file ≡ declined 1
-      bad-H v = bad-sides found (rw (v, and-false (goodSide (sheetW file))))
+-- ---- the tree after them
 
--- ---- the tree
-
-pub head-faulty : (file rows : List ℕ) (r : Field) (n : ℕ) → r ≡ F.the-variants.Faulty n → sidesJudged r file
-    → headJudged r file rows
-head-faulty file rows r n q s =
-    subst (λ r. headJudged r file rows) (sym q) (subst (λ r. sidesJudged r file) q s)
+pub small-sides : (file : List ℕ) → Sides file → (sheetW file ≤ 8) × (sheetH file ≤ 8)
+small-sides file s =
+    let g = both (goodSide (sheetW file)) (goodSide (sheetH file)) (s .good) in
+    (good-side (sheetW file) (g .0) .1, good-side (sheetH file) (g .1) .1)
 
 module _ (file : List ℕ) (s : Sides file) (r : Field)
     (e : fieldAt r file 5 ≡ field 2 (between 1 1365) (drop 5 file)) where
@@ -104,8 +99,7 @@ module _ (file : List ℕ) (s : Sides file) (r : Field)
   unfolding fileContents
   tree-faulty rows n q =
       let f : faulty n ≡ field 2 (between 1 1365) (drop 5 file) = known file 5 q e in
-      let c : fileContents file ≡ declined n =
-      rw (s .sides, first-side file, second-side file, s .good-W, s .good-H, ← f) in
+      let c : fileContents file ≡ declined n = rw (s .sides, first-side file, second-side file, s .good, ← f) in
       subst (λ r. headJudged r file rows) (sym q) c
 
   module _ (end : ℕ) (q : r ≡ F.the-variants.Body end) (k : ends r file 5 1 1365) where
@@ -121,29 +115,24 @@ module _ (file : List ℕ) (s : Sides file) (r : Field)
     here =
         let f : body (bodyAt file 5 end) (drop end file) ≡ field 2 (between 1 1365) (drop 5 file) =
         known file 5 q e in
-        rw (s .sides, first-side file, second-side file, s .good-W, s .good-H, ← f)
+        rw (s .sides, first-side file, second-side file, s .good, ← f)
 
-    module _ (W H : ℕ) (first : W ≡ sheetW file) (second : H ≡ sheetH file) where
-      pub tree-good : (rows : List ℕ) → formed W H (treeOf (treeIn file end)) ≡ true
-          → rows ≡ levelRows (treeIn file end) → Head file end (sheetW file) (sheetH file) rows
-      tree-good rows u painted =
-          record {
-            small-W = good-side (sheetW file) (s .good-W) .1;
-            small-H = good-side (sheetH file) (s .good-H) .1;
-            low = tree-size .0;
-            size = tree-size .1;
-            painted = painted;
-            contents = here ∙ rw (← first, ← second, u);
-          }
+    pub tree-good : (rows : List ℕ) → true ≡ formed (sheetW file) (sheetH file) (treeOf (treeIn file end))
+        → rows ≡ levelRows (treeIn file end) → Head file end (sheetW file) (sheetH file) rows
+    tree-good rows u painted =
+        let small = small-sides file s in
+        record {
+          small-W = small .0;
+          small-H = small .1;
+          low = tree-size .0;
+          size = tree-size .1;
+          painted = painted;
+          contents = here ∙ rw (← u);
+        }
 
-      pub tree-bad : formed W H (treeOf (treeIn file end)) ≡ false → fileContents file ≡ declined 2
-      tree-bad u = here ∙ rw (← first, ← second, u)
-
--- by the sides as they were read
-pub head-same : (file rows : List ℕ) (end W H : ℕ) → W ≡ sheetW file → H ≡ sheetH file
-    → Head file end (sheetW file) (sheetH file) rows → Head file end W H rows
-head-same file rows end W H p q h =
-    subst (λ W. Head file end W H rows) (sym p) (subst (λ H. Head file end (sheetW file) H rows) (sym q) h)
+    pub tree-bad : false ≡ formed (sheetW file) (sheetH file) (treeOf (treeIn file end))
+        → fileContents file ≡ declined 2
+    tree-bad u = here ∙ rw (← u)
 
 -- ---- a level
 

@@ -9,7 +9,7 @@ use native.Mathlib.Numerals.{add-one}
 use native.Mathlib.Omega.{arith}
 use borrow.Author.Tests.{lt-ltb, le-ltb, leb-true, le-leb}
 use lib.Dec.{leb}
-use lib.IntN.{ℤ, pos, negsuc, natAbs, _-ℤ_}
+use lib.IntN.{pos, negsuc, natAbs, _-ℤ_}
 use lib.ListN.{getD}
 use mir.Syntax.{w64}
 use mir.Val.{SFits, ofZ, toZ}
@@ -56,7 +56,8 @@ pub number : (b : List ℕ) (k n : ℕ) → n ≡ unsignedAt b k → n < 1099511
     → toZ w64 (ofZ w64 (toZ w64 ((n + 549755813888) % 1099511627776) -ℤ pos 549755813888)) ≡ numberAt b k
 number b k n e h =
     let x = (n + 549755813888) % 1099511627776 in
-    toZ-ofZ w64 (toZ w64 x -ℤ pos 549755813888) (less-fits (n + 549755813888) 1099511627776 (omega arith) (omega arith))
+    toZ-ofZ w64 (toZ w64 x -ℤ pos 549755813888)
+    (less-fits (n + 549755813888) 1099511627776 (omega arith) (omega arith))
     ∙ ap (λ z. z -ℤ pos 549755813888) (toZ-pos w64 x (omega arith))
     ∙ shifted n h
     ∙ ap twosComplement e
@@ -79,7 +80,8 @@ module _ (b : List ℕ) (k m : ℕ) (small : m < 549755813888) where
           (same-leb ((n + m) % 1099511627776) (2 * m) n m (λ t. omega arith) (λ t. omega arith))
       go (no l) =
           rw (le-ltb n 549755813888 (omega arith))
-          (same-leb ((n + m) % 1099511627776) (2 * m) (suc (1099511627775 - n)) m (λ t. omega arith) (λ t. omega arith))
+          (same-leb ((n + m) % 1099511627776) (2 * m) (suc (1099511627775 - n)) m (λ t. omega arith)
+          (λ t. omega arith))
 
   -- one that keeps it by far, by its two high bytes
   pub keeps-high : (high : ℕ) → high ≡ getD b (5 * k) 0 * 256 + getD b (5 * k + 1) 0 → ((i : ℕ) → getD b i 0 < 256)

@@ -1,13 +1,12 @@
 -- The outcome of reading a file: refused by what its fields say, refused by a last cause, or read.
 use mathlib.Core.Path.{_≡_, refl, sym, ap, ap₂, _∙_}
 use mathlib.Core.Bool.{Bool, true, false, not}
-use mathlib.Core.List.{List, []}
+use mathlib.Core.List.{List}
 use Prim.Native.Nat.{ℕ, _-_, _≤_}
-use native.Mathlib.Omega.{arith}
 use borrow.Author.Tests.{ltb-false, eqb-true}
 use lib.Dec.{ltb, eqb}
 use lib.IntN.{ℤ}
-use lib.ListN.{length, drop, length-take, length-drop}
+use lib.ListN.{length, drop, length-drop}
 use Rattle.surface.specs.Table.{cause, _orElse_, slots}
 use Rattle.surface.specs.Calls.{refused, gives, answer, afterwards, put, written, lengthCause, treeOutCause}
 use Rattle.surface.specs.TableFile.{declined, contains, fileOr, levelFields, fileContents}

@@ -1,14 +1,13 @@
 -- What a judged part of the file says of the file's contents: the rest of them, or that the file is declined.
 use mathlib.Core.Path.{_≡_}
-use mathlib.Core.Bool.{true, not}
+use mathlib.Core.Bool.{not}
 use mathlib.Core.List.{List, [], _++_}
-use Prim.Native.Nat.{ℕ, suc, _-_, _≤_, _<_}
+use Prim.Native.Nat.{ℕ, suc, _-_, _≤_}
 use lib.Dec.{ltb, eqb}
 use lib.IntN.{ℤ}
 use lib.ListN.{length, getD, take, drop}
-use Rattle.surface.specs.Sheet.{goodSide}
 use Rattle.surface.specs.Table.{cause, _orElse_, levels}
-use Rattle.surface.specs.TableFile.{body, declined, contains, field, levelFields, fileContents}
+use Rattle.surface.specs.TableFile.{declined, contains, levelFields, fileContents}
 use Rattle.surface.specs.TableFile.{fileOutcome}
 use Rattle.answers.specs.declared.File as Answers
 use Rattle.answers.specs.Answers.{fileAnswer}
@@ -30,20 +29,7 @@ sheetH file = getD file 4 0
 abbrev pub treeIn : List ℕ → ℕ → List ℕ
 treeIn file end = take (end - 8) (drop 8 file)
 
--- ---- the sides
-
--- the field of the sides is whole, and both are good
-pub record Sides (file : List ℕ) : Type 0 where
-  pub size : 5 ≤ length file
-  pub sides : field 1 (λ n. eqb n 2) file ≡ body (take 2 (drop 3 file)) (drop 5 file)
-  pub good-W : goodSide (sheetW file) ≡ true
-  pub good-H : goodSide (sheetH file) ≡ true
-
-abbrev pub sidesJudged : Field → List ℕ → Type 0
-sidesJudged (F.the-variants.Body end) file = Sides file
-sidesJudged (F.the-variants.Faulty c) file = fileContents file ≡ declined c
-
--- ---- the tree after them
+-- ---- the sides and the tree
 
 pub record Head (file : List ℕ) (end W H : ℕ) (rows : List ℕ) : Type 0 where
   pub small-W : W ≤ 8

@@ -1,46 +1,35 @@
 // The judgement of a file in byte order. Nothing is written but the rows of the regions.
-use super::bytes::wide;
 use super::field::Field;
 use super::field::field_at;
 ghost use mathlib.Core.Path.{_≡_};
 ghost use mathlib.Core.List.{List};
-ghost use Prim.Native.Nat.{ℕ, _≤_, _<_};
+ghost use Prim.Native.Nat.{ℕ, _≤_};
 ghost use lib.ListN.{length};
 ghost use Rattle.rows.specs.Rows.{levelRows, Nested};
-ghost use Rattle.loading.specs.Judged.{sheetW, sheetH, Sides, sidesJudged, headJudged};
+ghost use Rattle.loading.specs.Judged.{headJudged};
 ghost use Rattle.loading.specs.Judged.{inFile, levelJudged, levelsJudged};
 
-// The field of the sides, and the sides in it.
-fn sides_judge(file: &[u8]) -> Field
-    ensures { λ r. ⌜ sidesJudged r (now (file .entry)) ⌝ }
-{
-    let f = field_at(file, 0, 1, 2, 2);
-    let Field::Body(_) = f else {
-        return f;
-    };
-    let w = wide(file[3]);
-    let h = wide(file[4]);
-    if coefficients::good_side(w) {
-        if coefficients::good_side(h) {
-            return f;
-        }
-    }
-    Field::Faulty(1)
-}
-
-// The field of the tree after good sides, and the tree in it.
-fn tree_judge(file: &[u8], w: usize, h: usize, rows: &mut [u32; 96]) -> Field
-    requires { ⌜ Sides (now file) × (w ≡ sheetW (now file)) × (h ≡ sheetH (now file)) ⌝ }
+// The fields of the sides and of the tree with what is in them, and the position after them.
+pub fn head_judge(file: &[u8], rows: &mut [u32; 96]) -> Field
     ensures { λ r. ⌜ headJudged r (now (file .entry)) (now (rows .exit)) ⌝ }
 {
-    let f = field_at(file, 5, 2, 1, 1365);
-    let Field::Body(end) = f else {
-        return f;
+    let sides = field_at(file, 0, 1, 2, 2);
+    let Field::Body(_) = sides else {
+        return sides;
     };
-    if quadtree::walk::regions(&file[8..end], w, h, rows) {
-        return f;
+    let w = file[3] as usize;
+    let h = file[4] as usize;
+    if !coefficients::good_sides(w, h) {
+        return Field::Faulty(1);
     }
-    Field::Faulty(2)
+    let tree = field_at(file, 5, 2, 1, 1365);
+    let Field::Body(end) = tree else {
+        return tree;
+    };
+    if !quadtree::walk::regions(&file[8..end], w, h, rows) {
+        return Field::Faulty(2);
+    }
+    tree
 }
 
 // The field of a level, and the coefficients in it.
@@ -80,17 +69,4 @@ pub fn levels_judge(file: &[u8], from: usize, rows: &[u32; 96], w: usize, h: usi
         level += 1;
     }
     Field::Body(at)
-}
-
-// The fields before the levels', and the position after them.
-pub fn head_judge(file: &[u8], rows: &mut [u32; 96]) -> Field
-    ensures { λ r. ⌜ headJudged r (now (file .entry)) (now (rows .exit)) ⌝ }
-{
-    let sides = sides_judge(file);
-    let Field::Body(_) = sides else {
-        return sides;
-    };
-    let w = wide(file[3]);
-    let h = wide(file[4]);
-    tree_judge(file, w, h, rows)
 }

@@ -5,7 +5,6 @@ mod judge;
 mod load;
 mod number;
 
-use bytes::wide;
 use field::Field;
 ghost use mathlib.Core.Path.{_≡_};
 ghost use Prim.Native.Nat.{_≤_};
@@ -79,8 +78,8 @@ fn read_levels(
     ensures { λ r. ⌜ Reads (now (file .entry)) (now («tree_out» .entry)) (now («numbers_out» .entry)) r
         (now («tree_out» .exit)) (now («numbers_out» .exit)) ⌝ }
 {
-    let w = wide(file[3]);
-    let h = wide(file[4]);
+    let w = file[3] as usize;
+    let h = file[4] as usize;
     let f = judge::levels_judge(file, end, rows, w, h);
     match f {
         Field::Faulty(c) => answers::File::Refused(c),

@@ -1,7 +1,7 @@
 // The coefficients of a level from its body: the active ones take its numbers in slice order, the others 0.
 ghost use mathlib.Core.Path.{_≡_};
 ghost use mathlib.Core.List.{List};
-ghost use Prim.Native.Nat.{_+_, _*_, _≤_, _<_};
+ghost use Prim.Native.Nat.{_+_, _*_, _≤_};
 ghost use lib.IntN.{ℤ};
 ghost use lib.ListN.{length};
 ghost use Rattle.finite.specs.Range.{count};
@@ -16,7 +16,8 @@ ghost use Rattle.loading.specs.Levels.{rowLoaded, levelLoaded};
 fn load_row(body: &[u8], next: usize, row: &mut [i64], marks: activity::Marks, e: usize) -> usize
     requires { ⌜ (length (now row) * e ≤ 88) × (1 ≤ e) × (e ≤ 8)
         × (5 * (next + count (length (now row)) (marked e marks)) ≤ length (now body)) ⌝ }
-    ensures { λ r. ⌜ (now (row .exit) ≡ rowLoaded (marked e marks) (now (body .entry)) next (length (now (row .entry))))
+    ensures { λ r. ⌜ (now (row .exit)
+        ≡ rowLoaded (marked e marks) (now (body .entry)) next (length (now (row .entry))))
         × (r ≡ next + count (length (now (row .entry))) (marked e marks)) ⌝ }
 {
     let n = row.len();
@@ -40,6 +41,7 @@ pub fn load_level(body: &[u8], part: &mut [i64], rows: &[u32; 96], w: usize, h: 
         × (length (now body) ≡ 5 * activeCount w h (levelsOf (now rows)) level) ⌝ }
     ensures { λ _. ⌜ now (part .exit) ≡ levelLoaded w h (levelsOf (now (rows .entry))) level (now (body .entry)) ⌝ }
 {
+    // A level with no active function.
     if body.len() == 0 {
         coefficients::fill::fill(part, 0);
         return;

@@ -22,6 +22,7 @@ pub fn number_at(body: &[u8], k: usize) -> i64
     requires { ⌜ 5 * k + 5 ≤ length (now body) ⌝ }
     ensures { λ r. ⌜ r ≡ numberAt (now (body .entry)) k ⌝ }
 {
+    // From half the range on a number is negative: it goes round past the end.
     let n = unsigned_at(body, k);
     ((n + 549755813888) % 1099511627776) as i64 - 549755813888
 }

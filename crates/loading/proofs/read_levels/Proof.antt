@@ -1,51 +1,39 @@
 -- Each way out of `read_levels` gives the outcome of document 01.
 use mathlib.Core.Path.{_∙_, subst}
 use borrow.Author.Needs.{needs}
-use Rattle.loading.specs.Judged.{treeIn, Head, inFile, levelsJudged}
+use Rattle.loading.specs.Judged.{sheetW, sheetH, treeIn, inFile, levelsJudged}
 use Rattle.loading.proofs.LevelLaws.{nested}
-use Rattle.loading.proofs.JudgeLaws.{head-same}
 use Rattle.loading.proofs.ReadLaws.{read-declined}
 use Rattle.loading.proofs.read_levels.Statement.{statement}
 use Rattle.loading.proofs.read_levels.Tie as tie
 
-shared-slice-read-wide : tie.Need-shared-slice-read-wide
-shared-slice-read-wide c = search needs
+shared-slice-read-w : tie.Need-shared-slice-read-w
+shared-slice-read-w c = search needs
 
-wide-requires : tie.Need-wide-requires
-wide-requires c κs = search needs
+cast-w : tie.Need-cast-w
+cast-w c = search needs
 
-shared-slice-read-wide-2 : tie.Need-shared-slice-read-wide-2
-shared-slice-read-wide-2 c = search needs
+shared-slice-read-h : tie.Need-shared-slice-read-h
+shared-slice-read-h c = search needs
 
-wide-requires-2 : tie.Need-wide-requires-2
-wide-requires-2 c κs = search needs
+cast-h : tie.Need-cast-h
+cast-h c = search needs
 
 levels-judge-requires : tie.Need-levels-judge-requires
 levels-judge-requires c κs =
-    let first = c .before .before in
-    let s = first .before .before .before .before in
+    let s = c .before .before .before .before in
     let a = s .args in
-    let p = s .pre in (
-      rw (first .wide .ensures .0) (p .small-W),
-      rw (c .wide2 .ensures .0) (p .small-H),
-      p .size,
-      nested (treeIn (a .file .now) (a .end)) (a .rows .now) (p .painted),
-    )
+    let p = s .pre in
+    (p .small-W, p .small-H, p .size, nested (treeIn (a .file .now) (a .end)) (a .rows .now) (p .painted))
 
--- the fields before the levels, by the sides as they were read
-head : (c : tie.After-levels-judge)
-    → let second = c .before in
-    let first = second .before .before in
-    let a = first .before .before .before .before .args in
-    Head (a .file .now) (a .end) (first .wide .result) (second .wide2 .result) (a .rows .now)
-head c =
-    let second = c .before in
-    let first = second .before .before in
-    let s = first .before .before .before .before in
-    let a = s .args in
-    head-same (a .file .now) (a .rows .now) (a .end) (first .wide .result) (second .wide2 .result)
-    (first .wide .ensures .0)
-    (second .wide2 .ensures .0) (s .pre)
+-- what the judged levels say
+told : (c : tie.After-levels-judge)
+    → let a = c .before .before .before .before .before .args in
+    let file = a .file .now in
+    levelsJudged (c .levels-judge .result) file (a .end) (sheetW file) (sheetH file) (treeIn file (a .end))
+told c =
+    let s = c .before .before .before .before .before in
+    c .levels-judge .ensures .1 (treeIn (s .args .file .now) (s .args .end)) (s .pre .painted)
 
 enum-known-f : tie.Need-enum-known-f
 enum-known-f c = search needs
@@ -57,33 +45,26 @@ fill-requires : tie.Need-fill-requires
 fill-requires c κs =
     let k = c .before .before .before in
     let j = k .before .before in
-    let s = j .before .before .before .before .before .before .before in
+    let s = j .before .before .before .before .before in
     let a = s .args in
-    let second = j .before in
-    let first = second .before .before in
-    let w = first .wide .result in
-    let h = second .wide2 .result in
+    let file = a .file .now in
     let last = k .f2 .given .1 in (
-      head j,
-      subst (λ r. inFile r (a .file .now)) last (j .levels-judge .ensures .0),
-      subst (λ r. levelsJudged r (a .file .now) (a .end) w h (treeIn (a .file .now) (a .end))) last
-          (j .levels-judge .ensures .1 (treeIn (a .file .now) (a .end)) (s .pre .painted)),
+      s .pre,
+      subst (λ r. inFile r file) last (j .levels-judge .ensures .0),
+      subst (λ r. levelsJudged r file (a .end) (sheetW file) (sheetH file) (treeIn file (a .end))) last (told j),
     )
 
 returns : tie.Need-returns
 returns c =
     let k = c .before in
     let j = k .before .before in
-    let s = j .before .before .before .before .before .before .before in
+    let s = j .before .before .before .before .before in
     let a = s .args in
-    let second = j .before in
-    let first = second .before .before in
-    let faulty = subst
-    (λ r. levelsJudged r (a .file .now) (a .end) (first .wide .result) (second .wide2 .result)
-    (treeIn (a .file .now) (a .end)))
-    (k .f .given .1) (j .levels-judge .ensures .1 (treeIn (a .file .now) (a .end)) (s .pre .painted)) in
-    read-declined (a .file .now) (a .tree-out .now) (a .numbers-out .now) (k .f .given .0 .0)
-    (head j .contents ∙ faulty)
+    let file = a .file .now in
+    read-declined file (a .tree-out .now) (a .numbers-out .now) (k .f .given .0 .0)
+    (s .pre .contents
+    ∙ subst (λ r. levelsJudged r file (a .end) (sheetW file) (sheetH file) (treeIn file (a .end))) (k .f .given .1)
+    (told j))
 
 same-length : tie.Need-same-length
 same-length c = search needs
@@ -98,10 +79,10 @@ pub read-levels-spec : {M : Type 1} → statement M
 read-levels-spec =
     tie.close
     (tie.spec
-    shared-slice-read-wide
-    wide-requires
-    shared-slice-read-wide-2
-    wide-requires-2
+    shared-slice-read-w
+    cast-w
+    shared-slice-read-h
+    cast-h
     levels-judge-requires
     enum-known-f
     enum-known-f-2

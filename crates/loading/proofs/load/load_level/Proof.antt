@@ -94,8 +94,8 @@ mul-load-row c =
     let rows = turn .before .before in
     omega (
       arith,
-      row-small (turn .before .loop .b) (rows .functions2 .result) (rows .before .functions .result) (turn .loop-test .taken)
-          (rows .functions2 .ensures .1) (rows .before .functions .ensures .1) .0,
+      row-small (turn .before .loop .b) (rows .functions2 .result) (rows .before .functions .result)
+          (turn .loop-test .taken) (rows .functions2 .ensures .1) (rows .before .functions .ensures .1) .0,
     )
 
 sub-load-row : tie.Need-sub-load-row Inv-loop μ-loop
@@ -117,8 +117,8 @@ counted c =
     let columns = c .before .before .before .before in
     let side = columns .before .eighths in
     let a = columns .before .before .before .before .args in
-    row-count (a .w) (a .h) (a .level) (columns .functions .result) (c .before .before .loop .b) (levelsOf (a .rows .now))
-    (side .result) (c .active-row .result) (columns .functions .ensures .0) (side .ensures) (c .active-row .ensures)
+    row-count (a .w) (a .h) (a .level) (columns .functions .result) (c .before .before .loop .b)
+    (levelsOf (a .rows .now)) (side .result) (c .active-row .result) (columns .functions .ensures .0) (side .ensures) (c .active-row .ensures)
 
 load-row-requires : tie.Need-load-row-requires Inv-loop μ-loop
 load-row-requires c κs =

@@ -42,7 +42,8 @@ loop-holds c =
 is-marked-requires : tie.Need-is-marked-requires Inv-loop μ-loop
 is-marked-requires c κs =
     let s = c .before .before .before in
-    (index-fits (length (s .args .row .now)) (c .before .loop .a) (s .args .e) (s .pre .0) (s .pre .1) (omega arith), s .pre .2)
+    let a = s .args in
+    (index-fits (length (a .row .now)) (c .before .loop .a) (a .e) (s .pre .0) (s .pre .1) (omega arith), s .pre .2)
 
 -- the body has a number for a marked place
 left : (c : tie.Then1 Inv-loop μ-loop)

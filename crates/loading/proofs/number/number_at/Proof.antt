@@ -1,5 +1,4 @@
 -- `number_at` meets its contract.
-use native.Mathlib.Omega.{arith}
 use borrow.Author.Needs.{needs}
 use Rattle.loading.proofs.NumberLaws.{less-fits, number}
 use Rattle.loading.proofs.number.number_at.Statement.{statement}

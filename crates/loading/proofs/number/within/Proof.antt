@@ -13,7 +13,8 @@ use mir.ValLaws.{toZ-ofZ}
 use Rattle.finite.specs.Range.{every}
 use Rattle.surface.specs.Table.{limit}
 use Rattle.surface.specs.TableFile.{numberAt}
-use Rattle.loading.proofs.NumberLaws.{keepsLimit, limit-small, within-none, within-more, within-all, within-lost}
+use Rattle.loading.proofs.NumberLaws.{keepsLimit, limit-small}
+use Rattle.loading.proofs.NumberLaws.{within-none, within-more, within-all, within-lost}
 use Rattle.loading.proofs.number.within.Statement.{statement}
 use Rattle.loading.proofs.number.within.Tie as tie
 
@@ -55,8 +56,8 @@ told : (c : tie.After-keeps Inv-loop μ-loop)
     c .keeps .result ≡ keepsLimit (a .level) (a .body .now) (c .before .before .loop .k)
 told c =
     let a = c .before .before .before .before .before .args in
-    c .keeps .ensures
-    ∙ ap (λ z. leb (natAbs (numberAt (a .body .now) (c .before .before .loop .k))) (natAbs z)) (bound (c .before .before .before))
+    let number = numberAt (a .body .now) (c .before .before .loop .k) in
+    c .keeps .ensures ∙ ap (λ z. leb (natAbs number) (natAbs z)) (bound (c .before .before .before))
 
 returns : tie.Need-returns Inv-loop μ-loop
 returns c =
@@ -77,7 +78,8 @@ loop-again c =
     let loop = turn .before .loop in
     let a = turn .before .before .before .before .args in (
       omega (arith, turn .loop-test .taken),
-      within-more (a .level) (a .body .now) (loop .k) (loop .inv .1) (sym (not-false _ (c .if1 .left)) ∙ told (c .before)),
+      within-more (a .level) (a .body .now) (loop .k) (loop .inv .1)
+          (sym (not-false _ (c .if1 .left)) ∙ told (c .before)),
     )
 
 returns-2 : tie.Need-returns-2 Inv-loop μ-loop
