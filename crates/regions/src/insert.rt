@@ -49,11 +49,16 @@ fn build_from(
     at: usize,
 ) -> usize
     requires { ⌜ (x + side ≤ 32) × (y + side ≤ 32) × ((k : ℕ) × (side ≡ 2 ^ k))
-        × (3 * at + 4 * (side * side) ≤ 4096) × (length (now out) ≡ 1365) ⌝ }
+        × (3 * at + 4 * (side * side) ≤ 4096) × (length (now out) ≡ 1365) × Nested (now rows) ⌝ }
     ensures { λ r. ⌜ BuiltFrom x y side (levelsOf (now (rows .entry))) at r (now (out .entry)) (now (out .exit)) ⌝ }
 {
     if side == 1 {
         out[at] = rows::level_at(rows, x, y);
+        return at + 1;
+    }
+    // Away from the regions of every level the square is one leaf.
+    if rows::none_in(rows, 0, x, y, side) {
+        out[at] = 0;
         return at + 1;
     }
     let half = side / 2;

@@ -34,95 +34,47 @@ below n = and 3 kinds.ps (falls 3 kinds.ps _<_ μ n) self.Pre
 negated : {r t s : Bool} → r ≡ t → not r ≡ s → t ≡ not s
 negated {r} e f = sym e ∙ sym (Bool·not-not r) ∙ ap not f
 
+-- what the calls in it ask and give
+abbrev claims : ℕ → lts.Claims
+claims n = (
+  meets.Asked,
+  meets.Learnt,
+  builds.Asked,
+  builds.Learnt,
+  raises.Asked,
+  raises.Learnt,
+  levels.Asked,
+  levels.Learnt,
+  below n,
+  self.Post,
+  joins.Asked,
+  joins.Learnt,
+)
+
 module _ (n : ℕ) where
-  inside : (s : lts.Start (
-    meets.Asked,
-    meets.Learnt,
-    builds.Asked,
-    builds.Learnt,
-    raises.Asked,
-    raises.Learnt,
-    levels.Asked,
-    levels.Learnt,
-    below n,
-    self.Post,
-    joins.Asked,
-    joins.Learnt,
-  ) (given n) self.Post)
+  inside : (s : lts.Start (claims n) (given n) self.Post)
       → (1 ≤ s .args .side) × (s .args .at < 1365)
   inside s =
       let k = s .pre .1 .2 in
       omega (arith, some-area (s .args .side) (k .0) (k .1))
 
-  half : (d : lts.Else2 (
-    meets.Asked,
-    meets.Learnt,
-    builds.Asked,
-    builds.Learnt,
-    raises.Asked,
-    raises.Learnt,
-    levels.Asked,
-    levels.Learnt,
-    below n,
-    self.Post,
-    joins.Asked,
-    joins.Learnt,
-  ) (given n) self.Post)
+  half : (d : lts.Else2 (claims n) (given n) self.Post)
       → Halved (d .before .before .before .args .side)
   half d =
       let s = d .before .before .before in
       let k = s .pre .1 .2 in
       halved (s .args .side) (k .0) (k .1) (d .if2 .left)
 
-  meets-requires : lts.Need-meets-requires (
-    meets.Asked,
-    meets.Learnt,
-    builds.Asked,
-    builds.Learnt,
-    raises.Asked,
-    raises.Learnt,
-    levels.Asked,
-    levels.Learnt,
-    below n,
-    self.Post,
-    joins.Asked,
-    joins.Learnt,
-  ) (given n) self.Post
+  meets-requires : lts.Need-meets-requires (claims n) (given n) self.Post
   meets-requires c κs = (c .pre .1 .0, c .pre .1 .1)
 
-  build-from-requires : lts.Need-build-from-requires (
-    meets.Asked,
-    meets.Learnt,
-    builds.Asked,
-    builds.Learnt,
-    raises.Asked,
-    raises.Learnt,
-    levels.Asked,
-    levels.Learnt,
-    below n,
-    self.Post,
-    joins.Asked,
-    joins.Learnt,
-  ) (given n) self.Post
+  build-from-requires : lts.Need-build-from-requires (claims n) (given n) self.Post
   build-from-requires c κs =
       let s = c .before .before .before .before in
       let p = s .pre .1 in
-      (p .0, p .1, p .2, p .3, p .4)
+      (p .0, p .1, p .2, p .3, p .4, p .7)
 
-  returns : lts.Need-returns (
-    meets.Asked,
-    meets.Learnt,
-    builds.Asked,
-    builds.Learnt,
-    raises.Asked,
-    raises.Learnt,
-    levels.Asked,
-    levels.Learnt,
-    below n,
-    self.Post,
-    joins.Asked,
-    joins.Learnt,
-  ) (given n) self.Post
+  returns : lts.Need-returns (claims n) (given n) self.Post
   returns c =
       let t = c .before .before .before in
       let s = t .before .before in
@@ -130,87 +82,22 @@ module _ (n : ℕ) where
       inserted-none (boxAt (a .corners .now)) (a .level) (negated (t .before .meets .ensures) (t .if1 .taken)) (s .pre .1 .6)
       (c .build-from .ensures)
 
-  raise-quarter-requires : lts.Need-raise-quarter-requires (
-    meets.Asked,
-    meets.Learnt,
-    builds.Asked,
-    builds.Learnt,
-    raises.Asked,
-    raises.Learnt,
-    levels.Asked,
-    levels.Learnt,
-    below n,
-    self.Post,
-    joins.Asked,
-    joins.Learnt,
-  ) (given n) self.Post
+  raise-quarter-requires : lts.Need-raise-quarter-requires (claims n) (given n) self.Post
   raise-quarter-requires c κs =
       let s = c .before .before .before .before in
       let p = s .pre .1 in
       (omega arith, omega arith, p .5, p .6)
 
-  level-at-requires : lts.Need-level-at-requires (
-    meets.Asked,
-    meets.Learnt,
-    builds.Asked,
-    builds.Learnt,
-    raises.Asked,
-    raises.Learnt,
-    levels.Asked,
-    levels.Learnt,
-    below n,
-    self.Post,
-    joins.Asked,
-    joins.Learnt,
-  ) (given n) self.Post
+  level-at-requires : lts.Need-level-at-requires (claims n) (given n) self.Post
   level-at-requires c κs = (omega arith, omega arith)
 
-  element-write-out : lts.Need-element-write-out (
-    meets.Asked,
-    meets.Learnt,
-    builds.Asked,
-    builds.Learnt,
-    raises.Asked,
-    raises.Learnt,
-    levels.Asked,
-    levels.Learnt,
-    below n,
-    self.Post,
-    joins.Asked,
-    joins.Learnt,
-  ) (given n) self.Post
+  element-write-out : lts.Need-element-write-out (claims n) (given n) self.Post
   element-write-out c = omega (arith, inside (c .before .before .before .before .before .before .before))
 
-  add-result : lts.Need-add-result (
-    meets.Asked,
-    meets.Learnt,
-    builds.Asked,
-    builds.Learnt,
-    raises.Asked,
-    raises.Learnt,
-    levels.Asked,
-    levels.Learnt,
-    below n,
-    self.Post,
-    joins.Asked,
-    joins.Learnt,
-  ) (given n) self.Post
+  add-result : lts.Need-add-result (claims n) (given n) self.Post
   add-result c = omega (arith, inside (c .before .before .before .before .before .before .before))
 
-  returns-2 : lts.Need-returns-2 (
-    meets.Asked,
-    meets.Learnt,
-    builds.Asked,
-    builds.Learnt,
-    raises.Asked,
-    raises.Learnt,
-    levels.Asked,
-    levels.Learnt,
-    below n,
-    self.Post,
-    joins.Asked,
-    joins.Learnt,
-  ) (given n) self.Post
+  returns-2 : lts.Need-returns-2 (claims n) (given n) self.Post
   returns-2 c =
       let raised = c .before .before in
       let t = raised .before .before in
@@ -221,72 +108,20 @@ module _ (n : ℕ) where
       (negated (t .before .before .meets .ensures) (t .before .if1 .left)) (omega arith) (omega arith) (p .5) (p .7)
       (raised .raise-quarter .ensures) (c .level-at .ensures) (p .4) (inside s .1)
 
-  add-insert-from : lts.Need-add-insert-from (
-    meets.Asked,
-    meets.Learnt,
-    builds.Asked,
-    builds.Learnt,
-    raises.Asked,
-    raises.Learnt,
-    levels.Asked,
-    levels.Learnt,
-    below n,
-    self.Post,
-    joins.Asked,
-    joins.Learnt,
-  ) (given n) self.Post
+  add-insert-from : lts.Need-add-insert-from (claims n) (given n) self.Post
   add-insert-from c = omega (arith, inside (c .before .before .before .before .before))
 
-  insert-from-requires : lts.Need-insert-from-requires (
-    meets.Asked,
-    meets.Learnt,
-    builds.Asked,
-    builds.Learnt,
-    raises.Asked,
-    raises.Learnt,
-    levels.Asked,
-    levels.Learnt,
-    below n,
-    self.Post,
-    joins.Asked,
-    joins.Learnt,
-  ) (given n) self.Post
+  insert-from-requires : lts.Need-insert-from-requires (claims n) (given n) self.Post
   insert-from-requires c κs =
       let d = c .before .before in
       let h = half d in
       let p = d .before .before .before .pre .1 in
       (omega arith, (omega arith, omega arith, (h .j, h .half), omega arith, p .4, p .5, p .6, p .7))
 
-  add-insert-from-2 : lts.Need-add-insert-from-2 (
-    meets.Asked,
-    meets.Learnt,
-    builds.Asked,
-    builds.Learnt,
-    raises.Asked,
-    raises.Learnt,
-    levels.Asked,
-    levels.Learnt,
-    below n,
-    self.Post,
-    joins.Asked,
-    joins.Learnt,
-  ) (given n) self.Post
+  add-insert-from-2 : lts.Need-add-insert-from-2 (claims n) (given n) self.Post
   add-insert-from-2 c = omega arith
 
-  insert-from-requires-2 : lts.Need-insert-from-requires-2 (
-    meets.Asked,
-    meets.Learnt,
-    builds.Asked,
-    builds.Learnt,
-    raises.Asked,
-    raises.Learnt,
-    levels.Asked,
-    levels.Learnt,
-    below n,
-    self.Post,
-    joins.Asked,
-    joins.Learnt,
-  ) (given n) self.Post
+  insert-from-requires-2 : lts.Need-insert-from-requires-2 (claims n) (given n) self.Post
   insert-from-requires-2 c κs =
       let one = c .before .before in
       let d = one .before .before .before in
@@ -306,36 +141,10 @@ module _ (n : ℕ) where
         ),
       )
 
-  add-insert-from-3 : lts.Need-add-insert-from-3 (
-    meets.Asked,
-    meets.Learnt,
-    builds.Asked,
-    builds.Learnt,
-    raises.Asked,
-    raises.Learnt,
-    levels.Asked,
-    levels.Learnt,
-    below n,
-    self.Post,
-    joins.Asked,
-    joins.Learnt,
-  ) (given n) self.Post
+  add-insert-from-3 : lts.Need-add-insert-from-3 (claims n) (given n) self.Post
   add-insert-from-3 c = omega arith
 
-  insert-from-requires-3 : lts.Need-insert-from-requires-3 (
-    meets.Asked,
-    meets.Learnt,
-    builds.Asked,
-    builds.Learnt,
-    raises.Asked,
-    raises.Learnt,
-    levels.Asked,
-    levels.Learnt,
-    below n,
-    self.Post,
-    joins.Asked,
-    joins.Learnt,
-  ) (given n) self.Post
+  insert-from-requires-3 : lts.Need-insert-from-requires-3 (claims n) (given n) self.Post
   insert-from-requires-3 c κs =
       let two = c .before .before in
       let one = two .before .before .before in
@@ -357,52 +166,13 @@ module _ (n : ℕ) where
         ),
       )
 
-  add-insert-from-4 : lts.Need-add-insert-from-4 (
-    meets.Asked,
-    meets.Learnt,
-    builds.Asked,
-    builds.Learnt,
-    raises.Asked,
-    raises.Learnt,
-    levels.Asked,
-    levels.Learnt,
-    below n,
-    self.Post,
-    joins.Asked,
-    joins.Learnt,
-  ) (given n) self.Post
+  add-insert-from-4 : lts.Need-add-insert-from-4 (claims n) (given n) self.Post
   add-insert-from-4 c = omega arith
 
-  add-insert-from-5 : lts.Need-add-insert-from-5 (
-    meets.Asked,
-    meets.Learnt,
-    builds.Asked,
-    builds.Learnt,
-    raises.Asked,
-    raises.Learnt,
-    levels.Asked,
-    levels.Learnt,
-    below n,
-    self.Post,
-    joins.Asked,
-    joins.Learnt,
-  ) (given n) self.Post
+  add-insert-from-5 : lts.Need-add-insert-from-5 (claims n) (given n) self.Post
   add-insert-from-5 c = omega arith
 
-  insert-from-requires-4 : lts.Need-insert-from-requires-4 (
-    meets.Asked,
-    meets.Learnt,
-    builds.Asked,
-    builds.Learnt,
-    raises.Asked,
-    raises.Learnt,
-    levels.Asked,
-    levels.Learnt,
-    below n,
-    self.Post,
-    joins.Asked,
-    joins.Learnt,
-  ) (given n) self.Post
+  insert-from-requires-4 : lts.Need-insert-from-requires-4 (claims n) (given n) self.Post
   insert-from-requires-4 c κs =
       let three = c .before .before in
       let two = three .before .before .before in
@@ -426,20 +196,7 @@ module _ (n : ℕ) where
         ),
       )
 
-  join-requires : lts.Need-join-requires (
-    meets.Asked,
-    meets.Learnt,
-    builds.Asked,
-    builds.Learnt,
-    raises.Asked,
-    raises.Learnt,
-    levels.Asked,
-    levels.Learnt,
-    below n,
-    self.Post,
-    joins.Asked,
-    joins.Learnt,
-  ) (given n) self.Post
+  join-requires : lts.Need-join-requires (claims n) (given n) self.Post
   join-requires c κs =
       let four = c .before in
       let three = four .before .before .before in
@@ -456,20 +213,7 @@ module _ (n : ℕ) where
         i .size,
       )
 
-  returns-3 : lts.Need-returns-3 (
-    meets.Asked,
-    meets.Learnt,
-    builds.Asked,
-    builds.Learnt,
-    raises.Asked,
-    raises.Learnt,
-    levels.Asked,
-    levels.Learnt,
-    below n,
-    self.Post,
-    joins.Asked,
-    joins.Learnt,
-  ) (given n) self.Post
+  returns-3 : lts.Need-returns-3 (claims n) (given n) self.Post
   returns-3 c =
       let four = c .before .before in
       let three = four .before .before .before in
@@ -483,20 +227,7 @@ module _ (n : ℕ) where
 pub +insert-from-spec : {M : Type 1} → statement M
 +insert-from-spec =
     close μ λ n.
-    lts.spec (
-      meets.Asked,
-      meets.Learnt,
-      builds.Asked,
-      builds.Learnt,
-      raises.Asked,
-      raises.Learnt,
-      levels.Asked,
-      levels.Learnt,
-      below n,
-      self.Post,
-      joins.Asked,
-      joins.Learnt,
-    ) (given n) self.Post
+    lts.spec (claims n) (given n) self.Post
     (meets-requires n)
     (build-from-requires n)
     (returns n)
