@@ -105,3 +105,9 @@ none-level {rows} l x y side few n fx fy none q r xq qx yr ry =
     go (suc zero) few e a b c = omega arith
     go (suc (suc zero)) few e a b c = omega arith
     go (suc (suc (suc l))) few e a b c = absurd (omega arith)
+
+pub three-levels : (rows : List ℕ) (q r : ℕ) → levelsOf rows q r ≤ 3
+three-levels rows q r = omega (arith, small 0, small 1, small 2)
+  where
+    small : (l : ℕ) → inRows rows l q r < 2
+    small l = bit-small (getD rows (l * 32 + r) 0) q
