@@ -11,6 +11,7 @@ use lib.Seq.{getD-append-add, getD-set-same, getD-set-other, ext-getD, getD-take
 use Rattle.surface.specs.Quadtree.{Quadtree, leaf, split, bytes, equalLeaves, join, regionTree}
 use Rattle.quadtree.proofs.SubtreeLaws.{bytes-some}
 use Rattle.regions.specs.Regions.{Stands, fourEqual, row, Joined, BuiltFrom, bytesOf}
+use Rattle.regions.proofs.RegionLaws.{region-leaf}
 
 -- ---- bytes that stand from a position on
 
@@ -201,6 +202,22 @@ built-one x y side at v lev out one size fits same =
     tree : (k : ℕ) → 2 ^ k ≡ 1 → Stands (bytesOf k x y lev) at (at + 1) (set out at v)
     tree zero e = rw (← same) (stands-one at v out (omega arith))
     tree (suc k) e = absurd (omega (arith, one-le-pow k 2 (omega arith)))
+
+-- a square of one level is one leaf
+pub built-leaf : (x y side at v : ℕ) (lev : ℕ → ℕ → ℕ) (out : List ℕ) → 1 ≤ side * side → length out ≡ 1365 → at < 1365
+    → v ≤ 3 → ((q r : ℕ) → x ≤ q → q < x + side → y ≤ r → r < y + side → lev q r ≡ v)
+    → BuiltFrom x y side lev at (at + 1) out (set out at v)
+unfolding bytes
+built-leaf x y side at v lev out some size fits low same =
+    record {
+      size = length-set out at v ∙ size;
+      forth = omega arith;
+      room = omega arith;
+      tree = λ k e.
+          rw (region-leaf k x y v lev low (λ q r a b c d. same q r a (omega arith) c (omega arith)))
+          (stands-one at v out (omega arith));
+      before-it = λ p l. getD-set-other out at p v 0 (λ e. omega arith);
+    }
 
 region-join : (k x y h : ℕ) (lev : ℕ → ℕ → ℕ) → h ≡ 2 ^ k
     → regionTree (suc k) x y lev

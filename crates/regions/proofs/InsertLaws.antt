@@ -1,4 +1,5 @@
--- The insertion of a box into a square: away from the box, in a single quarter, and in the four children.
+-- The insertion of a box into a square: away from the box, in a single quarter, in a square that takes the level, and
+-- in the four children.
 use mathlib.Core.Path.{_≡_, refl, sym, ap, ap₂, _∙_, subst}
 use mathlib.Core.Bool.{Bool, true, false, _&&_, cond, true≢false, and-false}
 use mathlib.Core.List.{List}
@@ -17,8 +18,8 @@ use Rattle.quadtree.specs.Visit.{overlap, sharesArea}
 use Rattle.rows.specs.Rows.{inRows, levelsOf, Nested, above, inSpan, Painted, Raised}
 use Rattle.rows.proofs.Spans.{in-span, before-span, past-span, span-true}
 use Rattle.rows.proofs.RowLaws.{fourLevels, painted-four}
-use Rattle.regions.specs.Regions.{bytesOf, Stands, Joined, BuiltFrom, named, InsertedFrom, Inserted}
-use Rattle.regions.proofs.BuildLaws.{Halved, built-one, built-four, built-all}
+use Rattle.regions.specs.Regions.{bytesOf, Stands, Joined, BuiltFrom, named, TakesLevel, InsertedFrom, Inserted}
+use Rattle.regions.proofs.BuildLaws.{Halved, built-one, built-leaf, built-four, built-all}
 use Rattle.regions.proofs.PaintLaws.{painted-cong, painted-nested, level-inside, level-beside}
 use Rattle.regions.proofs.RegionLaws.{region-cong}
 
@@ -119,6 +120,35 @@ inserted-one {x} {y} {side} {at} {v} {rows} {new} {before} box level one shared 
   where
     inside : inBox box x y ≡ true
     inside = quarter-in x y box (rw one at shared)
+
+-- ---- a square that takes the level
+
+pub takes : (x y side level : ℕ) (box : Box) (rows : List ℕ) → box .u0 ≤ x → box .v0 ≤ y → x + side ≤ box .u1
+    → y + side ≤ box .v1
+    → ((q r : ℕ) → x ≤ q → q < x + side → y ≤ r → r < y + side → levelsOf rows q r ≤ level)
+    → TakesLevel x y side box level rows
+takes x y side level box rows u0 v0 u1 v1 low =
+    record {
+      inside = λ q r a b c d.
+          ap₂ _&&_ (along (box .u0) (box .u1) q (omega arith) (omega arith))
+          (along (box .v0) (box .v1) r (omega arith) (omega arith));
+      low = low;
+    }
+  where
+    along : (lo hi q : ℕ) → lo ≤ q → q < hi → (leb lo q && ltb q hi) ≡ true
+    along lo hi q a b = rw (le-leb lo q a) (lt-ltb q hi b)
+
+pub inserted-leaf : {x y side at : ℕ} {rows new before : List ℕ} (box : Box) (level : ℕ) → 1 ≤ side * side → level ≤ 3
+    → TakesLevel x y side box level rows → Raised x y side (λ _ _. level) rows new → length before ≡ 1365 → at < 1365
+    → InsertedFrom x y side box level rows new at (at + 1) before (set before at level)
+inserted-leaf {x} {y} {side} {at} {rows} {new} {before} box level some low t up size fits =
+    record {
+      raises = painted-cong (up .painted) λ i j hi hj.
+          sym (ap (λ t. cond t level 0) (t .inside (x + i) (y + j) (omega arith) (omega arith) (omega arith) (omega arith)));
+      builds = built-leaf x y side at level (raised (levelsOf rows) box level) before some size fits low λ q r a b c d.
+          ap (λ t. cond t (max (levelsOf rows q r) level) (levelsOf rows q r)) (t .inside q r a b c d)
+          ∙ omega (arith, t .low q r a b c d);
+    }
 
 -- ---- four children
 

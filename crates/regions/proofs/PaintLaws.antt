@@ -1,4 +1,5 @@
--- Squares of the rows that are raised: equal levels, nested regions, and the levels in a square and beside it.
+-- Squares of the rows that are raised: equal levels, nested regions, the levels in a square and beside it; and
+-- squares with no level above a given one.
 use mathlib.Core.Path.{_≡_, refl, sym, ap, ap₂, _∙_}
 use mathlib.Core.Bool.{Bool, true, false, _&&_, cond}
 use mathlib.Core.List.{List}
@@ -8,7 +9,7 @@ use lib.ListN.{getD}
 use Rattle.finite.specs.Bits.{bit}
 use Rattle.finite.proofs.Bits.{bit-small}
 use Rattle.surface.proofs.Least.{both, pick}
-use Rattle.rows.specs.Rows.{inRows, levelsOf, Nested, above, inSpan, Painted}
+use Rattle.rows.specs.Rows.{inRows, levelsOf, Nested, above, inSpan, NoneIn, Painted}
 use Rattle.rows.proofs.Spans.{in-span, span-true}
 
 module _ {x y side : ℕ} {rows new : List ℕ} where
@@ -90,3 +91,23 @@ module _ {x y side : ℕ} {rows new : List ℕ} where
             painted-bit l q r hl hq hr
             ∙ ap (λ t. max (inRows rows l q r) (cond t (above l (lev (q - x) (r - y))) 0)) out
             ∙ omega arith
+
+-- regions are nested, so no square has a level above l where none lies in the region of level l + 1
+pub none-level : {rows : List ℕ} (l x y side : ℕ) → l < 3 → Nested rows → x + side ≤ 32 → y + side ≤ 32
+    → NoneIn l x y side side rows → (q r : ℕ) → x ≤ q → q < x + side → y ≤ r → r < y + side → levelsOf rows q r ≤ l
+none-level {rows} l x y side few n fx fy none q r xq qx yr ry =
+    go l few (none q r xq qx yr ry) (n .second q r (omega arith) (omega arith)) (n .third q r (omega arith) (omega arith))
+    (bit-small (getD rows (0 * 32 + r) 0) q)
+  where
+    go : (l : ℕ) → l < 3 → inRows rows l q r ≡ 0 → inRows rows 1 q r ≤ inRows rows 0 q r
+        → inRows rows 2 q r ≤ inRows rows 1 q r → inRows rows 0 q r < 2 → levelsOf rows q r ≤ l
+    go zero few e a b c = omega arith
+    go (suc zero) few e a b c = omega arith
+    go (suc (suc zero)) few e a b c = omega arith
+    go (suc (suc (suc l))) few e a b c = absurd (omega arith)
+
+pub three-levels : (rows : List ℕ) (q r : ℕ) → levelsOf rows q r ≤ 3
+three-levels rows q r = omega (arith, small 0, small 1, small 2)
+  where
+    small : (l : ℕ) → inRows rows l q r < 2
+    small l = bit-small (getD rows (l * 32 + r) 0) q

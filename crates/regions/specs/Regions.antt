@@ -1,6 +1,6 @@
 -- What the insertion of a box into the regions gives, and what the tree of given levels is as bytes.
 use mathlib.Core.Path.{_≡_}
-use mathlib.Core.Bool.{Bool, _&&_, cond}
+use mathlib.Core.Bool.{Bool, true, _&&_, cond}
 use mathlib.Core.List.{List, _++_}
 use Prim.Native.Nat.{ℕ, _+_, _*_, _^_, _≤_, _<_}
 use lib.Dec.{eqb}
@@ -51,6 +51,11 @@ pub record BuiltFrom (x y side : ℕ) (lev : ℕ → ℕ → ℕ) (at next : ℕ
 -- the level that the insertion of a box names for a square, counted from the corner (x, y): 0 where it names none
 abbrev pub named : Box → ℕ → ℕ → ℕ → ℕ → ℕ → ℕ
 named box level x y q r = cond (inBox box (x + q) (y + r)) level 0
+
+-- every square of the square of a side at (x, y) lies in the box and has no level above the one named
+pub record TakesLevel (x y side : ℕ) (box : Box) (level : ℕ) (rows : List ℕ) : Type 0 where
+  pub inside : (q r : ℕ) → x ≤ q → q < x + side → y ≤ r → r < y + side → inBox box q r ≡ true
+  pub low : (q r : ℕ) → x ≤ q → q < x + side → y ≤ r → r < y + side → levelsOf rows q r ≤ level
 
 -- the squares of a box in the square of a side at (x, y) are raised to a level, and the tree of their new levels is
 -- written from a position on

@@ -1,11 +1,13 @@
 // The insertion of a box into the regions, by recursion into four children with the box in hand, and the one tree of
-// the new regions, written parent first; four equal leaves are merged on the way back.
+// the new regions, written parent first; four equal leaves are merged on the way back. The recursion ends early where
+// the rows of bits show that a square has one level.
 ghost use mathlib.Core.Path.{_≡_};
+ghost use mathlib.Core.Bool.{true};
 ghost use Prim.Native.Nat.{ℕ, _+_, _*_, _^_, _≤_, _<_};
 ghost use lib.ListN.{length};
 ghost use Rattle.quadtree.specs.Visit.{boxOf, boxAt};
 ghost use Rattle.rows.specs.Rows.{levelsOf, Nested};
-ghost use Rattle.regions.specs.Regions.{fourEqual, Joined, BuiltFrom, InsertedFrom, Inserted};
+ghost use Rattle.regions.specs.Regions.{fourEqual, Joined, BuiltFrom, TakesLevel, InsertedFrom, Inserted};
 
 // Whether the four bytes from `at` on are equal.
 fn equal_leaves(out: &[u8; 1365], at: usize) -> bool
@@ -49,11 +51,16 @@ fn build_from(
     at: usize,
 ) -> usize
     requires { ⌜ (x + side ≤ 32) × (y + side ≤ 32) × ((k : ℕ) × (side ≡ 2 ^ k))
-        × (3 * at + 4 * (side * side) ≤ 4096) × (length (now out) ≡ 1365) ⌝ }
+        × (3 * at + 4 * (side * side) ≤ 4096) × (length (now out) ≡ 1365) × Nested (now rows) ⌝ }
     ensures { λ r. ⌜ BuiltFrom x y side (levelsOf (now (rows .entry))) at r (now (out .entry)) (now (out .exit)) ⌝ }
 {
     if side == 1 {
         out[at] = rows::level_at(rows, x, y);
+        return at + 1;
+    }
+    // The region of level 1 holds those of the finer levels, so that every quarter of the square has level 0.
+    if rows::none_in(rows, 0, x, y, side) {
+        out[at] = 0;
         return at + 1;
     }
     let half = side / 2;
@@ -62,6 +69,37 @@ fn build_from(
     let p3 = build_from(rows, x, y + half, half, out, p2);
     let end = build_from(rows, x + half, y + half, half, out, p3);
     join(out, at, end)
+}
+
+// Whether the square of this side with low corner (x, y) lies in the box and has no quarter above the level, so that
+// each of its quarters takes the level.
+fn takes_level(
+    rows: &[u32; 96],
+    x: usize,
+    y: usize,
+    side: usize,
+    corners: &[usize; 4],
+    level: usize,
+) -> bool
+    requires { ⌜ (1 ≤ side) × (x + side ≤ 32) × (y + side ≤ 32) × (level ≤ 3) × Nested (now rows) ⌝ }
+    ensures { λ t. ⌜ (t ≡ true → TakesLevel x y side (boxAt (now (corners .entry))) level (now (rows .entry))) ⌝ }
+{
+    if x < corners[0] {
+        return false;
+    }
+    if y < corners[1] {
+        return false;
+    }
+    if corners[2] < x + side {
+        return false;
+    }
+    if corners[3] < y + side {
+        return false;
+    }
+    if level == 3 {
+        return true;
+    }
+    rows::none_in(rows, level, x, y, side)
 }
 
 // Raises the quarters of the box with these corners that lie in the square of this side with low corner (x, y) to a
@@ -88,6 +126,11 @@ fn insert_from(
     if side == 1 {
         rows::raise_quarter(rows, x, y, level);
         out[at] = rows::level_at(rows, x, y);
+        return at + 1;
+    }
+    if takes_level(rows, x, y, side, corners, level) {
+        rows::raise_square(rows, x, y, side, level);
+        out[at] = level as u8;
         return at + 1;
     }
     let half = side / 2;

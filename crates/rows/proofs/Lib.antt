@@ -1,4 +1,5 @@
 pub mod Spans
 pub mod MaskLaws
+pub mod NoneLaws
 pub mod SmallLevels
 pub mod RowLaws

@@ -39,6 +39,10 @@ levelRows t = rowsOf (levels t)
 abbrev pub inSpan : ℕ → ℕ → ℕ → Bool
 inSpan x n q = leb x q && ltb q (x + n)
 
+-- no square of the w by h squares from (x, y) on lies in the region of level l + 1
+abbrev pub NoneIn : ℕ → ℕ → ℕ → ℕ → ℕ → List ℕ → Type 0
+NoneIn l x y w h rows = (q r : ℕ) → x ≤ q → q < x + w → y ≤ r → r < y + h → inRows rows l q r ≡ 0
+
 -- the squares of the square of a side at (x, y) are raised to given levels, counted from its corner; no square is
 -- lowered, and none outside it is changed
 pub record Painted (x y side : ℕ) (lev : ℕ → ℕ → ℕ) (before after : List ℕ) : Type 0 where

@@ -1,11 +1,11 @@
 // Regions as rows of bits: for each of the levels 1 to 3 a word of 32 bits for each row of quarter squares, bit q of
 // word 32 l + r for quarter square (q, r) and level l + 1.
 ghost use mathlib.Core.Path.{_≡_};
-ghost use mathlib.Core.Bool.{cond};
+ghost use mathlib.Core.Bool.{true, false, cond};
 ghost use Prim.Native.Nat.{ℕ, _+_, _≤_, _<_};
 ghost use lib.ListN.{length};
 ghost use Rattle.finite.specs.Bits.{bit};
-ghost use Rattle.rows.specs.Rows.{inSpan, levelsOf, Masked, Raised};
+ghost use Rattle.rows.specs.Rows.{inSpan, levelsOf, NoneIn, Masked, Raised};
 
 // A word with the n bits from x on set.
 pub fn span(x: usize, n: usize) -> u32
@@ -24,6 +24,23 @@ pub fn level_at(rows: &[u32; 96], q: usize, r: usize) -> u8
     let b = (rows[32 + r] >> q) % 2;
     let c = (rows[64 + r] >> q) % 2;
     (a + b + c) as u8
+}
+
+// Whether no quarter square of the square of this side with low corner (x, y) lies in the region of level l + 1.
+pub fn none_in(rows: &[u32; 96], l: usize, x: usize, y: usize, side: usize) -> bool
+    requires { ⌜ (l < 3) × (1 ≤ side) × (x + side ≤ 32) × (y + side ≤ 32) ⌝ }
+    ensures { λ t. ⌜ (t ≡ true → NoneIn l x y side side (now (rows .entry)))
+        × (t ≡ false → ¬ (NoneIn l x y side side (now (rows .entry)))) ⌝ }
+{
+    let mask = span(x, side);
+    let mut i = 0;
+    while i < side {
+        if rows[l * 32 + y + i] & mask != 0 {
+            return false;
+        }
+        i += 1;
+    }
+    true
 }
 
 // Sets the bits of a mask in n words from a place on.
