@@ -8,7 +8,7 @@ ghost use Rattle.surface.specs.Sheet as Sheet;
 ghost use Rattle.surface.specs.Table as Table;
 ghost use lib.IntN.{pos};
 
-fn good_side(n: usize) -> bool
+pub fn good_side(n: usize) -> bool
     ensures { λ r. ⌜ r ≡ Sheet.goodSide n ⌝ }
 {
     if 1 <= n { n <= 8 } else { false }
