@@ -4,7 +4,7 @@ use mathlib.Core.Bool.{Bool, true, false, cond, _||_}
 use mathlib.Core.List.{List, [], _∷_}
 use mathlib.Core.Logic.{_↔_}
 use Prim.Native.Nat.{ℕ, zero, suc, _+_, _-_, _*_, _/_, _^_, _≤_, _<_, min, max}
-use native.Mathlib.Nat.{add-comm, le-trans}
+use native.Mathlib.Nat.{add-zero, le-trans}
 use native.Mathlib.Decide.{decLt}
 use native.Mathlib.Omega.{arith}
 use lib.Bits.{bitAnd, bitOr, bitXor, differ}
@@ -16,7 +16,7 @@ use Rattle.finite.specs.Range.{least, every}
 use Rattle.finite.proofs.Bits.{bit-small, bit-and, bit-or, bit-xor, bit-shr, bit-shl, bit-shl-low}
 use Rattle.finite.proofs.Tests.{every-true}
 use Rattle.surface.specs.Sheet.{quarters}
-use Rattle.surface.proofs.Least.{least-le, le-least}
+use Rattle.surface.proofs.Least.{least-le-top, least-le, le-least}
 use Rattle.activity.specs.Marks.{Common, paddedBit, PaddedTo, Runs, Without}
 
 -- ---- minima of bits
@@ -25,6 +25,15 @@ use Rattle.activity.specs.Marks.{Common, paddedBit, PaddedTo, Runs, With
 pub least-more : (n : ℕ) (f : ℕ → ℕ) → min (least 1 n f) (f n) ≡ least 1 (n + 1) f
 unfolding least
 least-more n f = let e : n + 1 ≡ suc n = omega arith in rw e refl
+
+-- those from n on beside those below n
+least-join : (n m : ℕ) (f g : ℕ → ℕ) → ((j : ℕ) → g j ≡ f (n + j))
+    → min (least 1 n f) (least 1 m g) ≡ least 1 (n + m) f
+unfolding least
+least-join n zero f g same = rw (add-zero n) (omega (arith, least-le-top 1 n f))
+least-join n (suc m) f g same =
+    let e : n + suc m ≡ suc (n + m) = omega arith in
+    rw e (omega (arith, least-join n m f g same, same m))
 
 -- the least of them is 1 where each is
 pub all-ones : (n : ℕ) (f : ℕ → ℕ) → (1 ≤ least 1 n f) ↔ ((k : ℕ) → k < n → 1 ≤ f k)
@@ -49,12 +58,12 @@ pub run-one : (word : ℕ) → Runs word 1 word
 unfolding least
 run-one word k = let z : k + 0 ≡ k = omega arith in rw z (omega (arith, bit-small word k))
 
-pub run-more : (word n run : ℕ) → Runs word n run → Runs word (n + 1) (bitAnd run (word / 2 ^ n))
-run-more word n run runs k =
-    let f : ℕ → ℕ = λ j. bit word (k + j) in
-    bit-and run (word / 2 ^ n) k
-    ∙ ap₂ min (runs k) (bit-shr word n k ∙ ap (bit word) (add-comm n k))
-    ∙ least-more n f
+-- a run that starts where another of its length ends makes one of twice the length
+pub run-twice : (word n run : ℕ) → Runs word n run → Runs word (n + n) (bitAnd run (run / 2 ^ n))
+run-twice word n run runs k =
+    bit-and run (run / 2 ^ n) k
+    ∙ ap₂ min (runs k) (bit-shr run n k ∙ runs (n + k))
+    ∙ least-join n n (λ j. bit word (k + j)) (λ j. bit word (n + k + j)) (λ j. ap (bit word) (omega arith))
 
 -- ---- the bits of a word that another lacks
 
