@@ -84,37 +84,28 @@ without-bit word other k =
 
 -- ---- the places beside the sheet
 
-unfoldable pub edges : List ℕ
-edges =
-    18446744073709551615
-    ∷ 18446744073708568575
-    ∷ 18446744073692839935
-    ∷ 18446744073441181695
-    ∷ 18446744069414649855
-    ∷ 18446744004990140415
-    ∷ 18446742974197989375
-    ∷ 18446726481523572735
-    ∷ 18446462598732906495
-    ∷ []
+-- all places but those of a sheet of W cells, with 16 places before it
+abbrev edges : ℕ → ℕ
+edges W = bitXor 18446744073709551615 (4294967295 / 2 ^ (32 - 4 * W) * 65536)
 
 -- place k lies beside a sheet of W cells
 abbrev beside : ℕ → ℕ → Bool
 beside W k = ltb k 16 || leb (16 + quarters W) k
 
-edges-right : every 9 (λ W. every 64 (λ k. eqb (bit (getD edges W 0) k) (cond (beside W k) 1 0))) ≡ true
-unfolding edges every bit
+edges-right : every 9 (λ W. every 64 (λ k. eqb (bit (edges W) k) (cond (beside W k) 1 0))) ≡ true
+unfolding every bit
 edges-right = refl
 
-edge-bit : (W k : ℕ) → W ≤ 8 → k < 64 → bit (getD edges W 0) k ≡ cond (beside W k) 1 0
+edge-bit : (W k : ℕ) → W ≤ 8 → k < 64 → bit (edges W) k ≡ cond (beside W k) 1 0
 edge-bit W k hW hk =
-    eqb-true (bit (getD edges W 0) k) (cond (beside W k) 1 0)
-    (every-true 64 (λ k. eqb (bit (getD edges W 0) k) (cond (beside W k) 1 0))
-    (every-true 9 (λ W. every 64 (λ k. eqb (bit (getD edges W 0) k) (cond (beside W k) 1 0))) edges-right W (omega arith))
+    eqb-true (bit (edges W) k) (cond (beside W k) 1 0)
+    (every-true 64 (λ k. eqb (bit (edges W) k) (cond (beside W k) 1 0))
+    (every-true 9 (λ W. every 64 (λ k. eqb (bit (edges W) k) (cond (beside W k) 1 0))) edges-right W (omega arith))
     k hk)
 
-pub padded-bit : (W word : ℕ) → W ≤ 8 → PaddedTo W word (bitOr (word * 65536) (getD edges W 0))
+pub padded-bit : (W word : ℕ) → W ≤ 8 → PaddedTo W word (bitOr (word * 65536) (edges W))
 padded-bit W word hW k hk =
-    bit-or (word * 65536) (getD edges W 0) k
+    bit-or (word * 65536) (edges W) k
     ∙ ap (max (bit (word * 65536) k)) (edge-bit W k hW hk)
     ∙ go (decLt k 16) (decLt k (16 + quarters W))
   where

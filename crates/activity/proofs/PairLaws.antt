@@ -1,5 +1,5 @@
 -- The marks of a row two by two: those of even and of odd functions, each from its own word, a cell's side apart.
-use mathlib.Core.Path.{_≡_, refl, sym, ap, _∙_}
+use mathlib.Core.Path.{_≡_, refl, sym, ap, ap₂, _∙_}
 use mathlib.Core.Bool.{cond}
 use mathlib.Core.List.{List}
 use Prim.Native.Nat.{ℕ, zero, suc, _+_, _-_, _*_, _/_, _%_, _^_, _≤_, _<_}
@@ -10,9 +10,10 @@ use lib.ListN.{length}
 use lib.Pow.{shr-shr}
 use borrow.Author.Tests.{eq-eqb, ne-eqb}
 use Rattle.finite.specs.Bits.{bit}
+use Rattle.finite.specs.Range.{count, total}
 use Rattle.finite.proofs.Bits.{bit-small, bit-shr}
 use Rattle.finite.proofs.Table.{table-cong}
-use Rattle.activity.specs.Marks.{markPlace}
+use Rattle.activity.specs.Marks.{markPlace, marked}
 use Rattle.activity.specs.Mark.{markAt, rowMarks}
 use Rattle.activity.specs.declared.Marks.{Marks}
 use Rattle.activity.proofs.MarkLaws.{written, written-all}
@@ -85,3 +86,9 @@ module _ (e : ℕ) (m : Marks) (small : e ≤ 8) where
       ∙ written-all k (pairMarks e m) l all
       ∙ table-cong 0 k (pairMarks e m) (markAt e m) (λ j h. pair-mark (0 + j))
       ∙ ap (rowMarks e m) all
+
+  -- and once all are counted
+  pub pairs-counted : (k : ℕ) → total k (pairMarks e m) ≡ count k (marked e m)
+  unfolding total count
+  pairs-counted zero = refl
+  pairs-counted (suc k) = ap₂ _+_ (pairs-counted k) (pair-mark k)

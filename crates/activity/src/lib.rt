@@ -79,26 +79,14 @@ fn common(rows: &[u32; 96], from: usize, to: usize) -> u32
     word
 }
 
-// The places beside the sheet in a word that has 16 places before it, for each width of the sheet: "its support is cut
-// to the sheet", so that they count as set.
-const EDGES: [u64; 9] = [
-    18446744073709551615,
-    18446744073708568575,
-    18446744073692839935,
-    18446744073441181695,
-    18446744069414649855,
-    18446744004990140415,
-    18446742974197989375,
-    18446726481523572735,
-    18446462598732906495,
-];
-
-// A row of quarters with 16 places before it; those and the places past the sheet's edge are set.
+// A row of quarters with 16 places before it; those and the places past the sheet's edge are set, since "its support is
+// cut to the sheet".
 fn padded(word: u32, w: usize) -> u64
     requires { ⌜ w ≤ 8 ⌝ }
     ensures { λ r. ⌜ PaddedTo w word r ⌝ }
 {
-    (word as u64 * 65536) | EDGES[w]
+    let sheet = 4294967295u64 >> (32 - 4 * w);
+    (word as u64 * 65536) | (18446744073709551615 ^ (sheet * 65536))
 }
 
 // Bit k of the result is set where the 2 e bits from k on are, e the eighths of a level's cell: runs of 2 bits, and a
