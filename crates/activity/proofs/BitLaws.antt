@@ -4,7 +4,7 @@ use mathlib.Core.Bool.{Bool, true, false, cond, _||_}
 use mathlib.Core.List.{List, [], _∷_}
 use mathlib.Core.Logic.{_↔_}
 use Prim.Native.Nat.{ℕ, zero, suc, _+_, _-_, _*_, _/_, _^_, _≤_, _<_, min, max}
-use native.Mathlib.Nat.{add-comm, le-trans}
+use native.Mathlib.Nat.{add-zero, le-trans}
 use native.Mathlib.Decide.{decLt}
 use native.Mathlib.Omega.{arith}
 use lib.Bits.{bitAnd, bitOr, bitXor, differ}
@@ -16,7 +16,7 @@ use Rattle.finite.specs.Range.{least, every}
 use Rattle.finite.proofs.Bits.{bit-small, bit-and, bit-or, bit-xor, bit-shr, bit-shl, bit-shl-low}
 use Rattle.finite.proofs.Tests.{every-true}
 use Rattle.surface.specs.Sheet.{quarters}
-use Rattle.surface.proofs.Least.{least-le, le-least}
+use Rattle.surface.proofs.Least.{least-le-top, least-le, le-least}
 use Rattle.activity.specs.Marks.{Common, paddedBit, PaddedTo, Runs, Without}
 
 -- ---- minima of bits
@@ -25,6 +25,15 @@ use Rattle.activity.specs.Marks.{Common, paddedBit, PaddedTo, Runs, With
 pub least-more : (n : ℕ) (f : ℕ → ℕ) → min (least 1 n f) (f n) ≡ least 1 (n + 1) f
 unfolding least
 least-more n f = let e : n + 1 ≡ suc n = omega arith in rw e refl
+
+-- those from n on beside those below n
+least-join : (n m : ℕ) (f g : ℕ → ℕ) → ((j : ℕ) → g j ≡ f (n + j))
+    → min (least 1 n f) (least 1 m g) ≡ least 1 (n + m) f
+unfolding least
+least-join n zero f g same = rw (add-zero n) (omega (arith, least-le-top 1 n f))
+least-join n (suc m) f g same =
+    let e : n + suc m ≡ suc (n + m) = omega arith in
+    rw e (omega (arith, least-join n m f g same, same m))
 
 -- the least of them is 1 where each is
 pub all-ones : (n : ℕ) (f : ℕ → ℕ) → (1 ≤ least 1 n f) ↔ ((k : ℕ) → k < n → 1 ≤ f k)
@@ -49,12 +58,12 @@ pub run-one : (word : ℕ) → Runs word 1 word
 unfolding least
 run-one word k = let z : k + 0 ≡ k = omega arith in rw z (omega (arith, bit-small word k))
 
-pub run-more : (word n run : ℕ) → Runs word n run → Runs word (n + 1) (bitAnd run (word / 2 ^ n))
-run-more word n run runs k =
-    let f : ℕ → ℕ = λ j. bit word (k + j) in
-    bit-and run (word / 2 ^ n) k
-    ∙ ap₂ min (runs k) (bit-shr word n k ∙ ap (bit word) (add-comm n k))
-    ∙ least-more n f
+-- a run that starts where another of its length ends makes one of twice the length
+pub run-twice : (word n run : ℕ) → Runs word n run → Runs word (n + n) (bitAnd run (run / 2 ^ n))
+run-twice word n run runs k =
+    bit-and run (run / 2 ^ n) k
+    ∙ ap₂ min (runs k) (bit-shr run n k ∙ runs (n + k))
+    ∙ least-join n n (λ j. bit word (k + j)) (λ j. bit word (n + k + j)) (λ j. ap (bit word) (omega arith))
 
 -- ---- the bits of a word that another lacks
 
@@ -75,37 +84,28 @@ without-bit word other k =
 
 -- ---- the places beside the sheet
 
-unfoldable pub edges : List ℕ
-edges =
-    18446744073709551615
-    ∷ 18446744073708568575
-    ∷ 18446744073692839935
-    ∷ 18446744073441181695
-    ∷ 18446744069414649855
-    ∷ 18446744004990140415
-    ∷ 18446742974197989375
-    ∷ 18446726481523572735
-    ∷ 18446462598732906495
-    ∷ []
+-- all places but those of a sheet of W cells, with 16 places before it
+abbrev edges : ℕ → ℕ
+edges W = bitXor 18446744073709551615 (4294967295 / 2 ^ (32 - 4 * W) * 65536)
 
 -- place k lies beside a sheet of W cells
 abbrev beside : ℕ → ℕ → Bool
 beside W k = ltb k 16 || leb (16 + quarters W) k
 
-edges-right : every 9 (λ W. every 64 (λ k. eqb (bit (getD edges W 0) k) (cond (beside W k) 1 0))) ≡ true
-unfolding edges every bit
+edges-right : every 9 (λ W. every 64 (λ k. eqb (bit (edges W) k) (cond (beside W k) 1 0))) ≡ true
+unfolding every bit
 edges-right = refl
 
-edge-bit : (W k : ℕ) → W ≤ 8 → k < 64 → bit (getD edges W 0) k ≡ cond (beside W k) 1 0
+edge-bit : (W k : ℕ) → W ≤ 8 → k < 64 → bit (edges W) k ≡ cond (beside W k) 1 0
 edge-bit W k hW hk =
-    eqb-true (bit (getD edges W 0) k) (cond (beside W k) 1 0)
-    (every-true 64 (λ k. eqb (bit (getD edges W 0) k) (cond (beside W k) 1 0))
-    (every-true 9 (λ W. every 64 (λ k. eqb (bit (getD edges W 0) k) (cond (beside W k) 1 0))) edges-right W (omega arith))
+    eqb-true (bit (edges W) k) (cond (beside W k) 1 0)
+    (every-true 64 (λ k. eqb (bit (edges W) k) (cond (beside W k) 1 0))
+    (every-true 9 (λ W. every 64 (λ k. eqb (bit (edges W) k) (cond (beside W k) 1 0))) edges-right W (omega arith))
     k hk)
 
-pub padded-bit : (W word : ℕ) → W ≤ 8 → PaddedTo W word (bitOr (word * 65536) (getD edges W 0))
+pub padded-bit : (W word : ℕ) → W ≤ 8 → PaddedTo W word (bitOr (word * 65536) (edges W))
 padded-bit W word hW k hk =
-    bit-or (word * 65536) (getD edges W 0) k
+    bit-or (word * 65536) (edges W) k
     ∙ ap (max (bit (word * 65536) k)) (edge-bit W k hW hk)
     ∙ go (decLt k 16) (decLt k (16 + quarters W))
   where

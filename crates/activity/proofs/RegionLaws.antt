@@ -245,22 +245,22 @@ region-row W H L b (suc l) rows low high word padded m n hW hH hL one three el e
     region-marks W H L b l rows word padded m n hW hH hL (omega arith) (rw (first, el, eh) at common) pad run
 
 -- at level 3 an even function takes two runs, above it one
-pub fine-run : (L e word odd : ℕ) → e ≡ eighths L → e ≡ 1 → Runs word (2 * e) odd
+pub fine-run : (L word odd : ℕ) → L ≡ 3 → Runs word (2 * eighths L) odd
     → MarkRun L word (record { even = bitAnd odd (odd / 2 ^ 1); odd = odd })
-fine-run L e word odd side one runs =
-    let rest : eighths L % 2 ≡ 1 = ap (λ n. n % 2) (sym side ∙ one) in
-    mark-run L word _ (rw (← side) runs) λ k.
+unfolding eighths
+fine-run L word odd fine runs =
+    let rest : eighths L % 2 ≡ 1 = ap (λ l. eighths l % 2) fine in
+    mark-run L word _ runs λ k.
     rw rest
     (bit-and odd (odd / 2 ^ 1) k ∙ ap (min (bit odd k)) (bit-shr odd 1 k ∙ ap (bit odd) (add-comm 1 k)))
 
-pub coarse-run : (L e word odd : ℕ) → L ≤ 3 → e ≡ eighths L → (e ≡ 1 → ⊥) → Runs word (2 * e) odd
+pub coarse-run : (L word odd : ℕ) → L ≤ 3 → (L ≡ 3 → ⊥) → Runs word (2 * eighths L) odd
     → MarkRun L word (record { even = odd; odd = odd })
 unfolding eighths
-coarse-run L e word odd hL side more runs =
-    mark-run L word _ (rw (← side) runs) λ k.
-    rw (even-side L hL (λ one. more (side ∙ one)), add-zero k) (omega arith)
+coarse-run L word odd hL coarse runs =
+    mark-run L word _ runs λ k. rw (even-side L hL coarse, add-zero k) (omega arith)
   where
-    even-side : (L : ℕ) → L ≤ 3 → (eighths L ≡ 1 → ⊥) → eighths L % 2 ≡ 0
+    even-side : (L : ℕ) → L ≤ 3 → (L ≡ 3 → ⊥) → eighths L % 2 ≡ 0
     even-side zero h n = refl
     even-side (suc zero) h n = refl
     even-side (suc (suc zero)) h n = refl

@@ -79,40 +79,35 @@ fn common(rows: &[u32; 96], from: usize, to: usize) -> u32
     word
 }
 
-// The places beside the sheet in a word that has 16 places before it, for each width of the sheet: "its support is cut
-// to the sheet", so that they count as set.
-const EDGES: [u64; 9] = [
-    18446744073709551615,
-    18446744073708568575,
-    18446744073692839935,
-    18446744073441181695,
-    18446744069414649855,
-    18446744004990140415,
-    18446742974197989375,
-    18446726481523572735,
-    18446462598732906495,
-];
-
-// A row of quarters with 16 places before it; those and the places past the sheet's edge are set.
+// A row of quarters with 16 places before it; those and the places past the sheet's edge are set, since "its support is
+// cut to the sheet".
 fn padded(word: u32, w: usize) -> u64
     requires { ⌜ w ≤ 8 ⌝ }
     ensures { λ r. ⌜ PaddedTo w word r ⌝ }
 {
-    (word as u64 * 65536) | EDGES[w]
+    let sheet = 4294967295u64 >> (32 - 4 * w);
+    (word as u64 * 65536) | (18446744073709551615 ^ (sheet * 65536))
 }
 
-// Bit k of the result is set where the n bits from k on are.
-fn runs(word: u64, n: usize) -> u64
-    requires { ⌜ (1 ≤ n) × (n ≤ 16) ⌝ }
-    ensures { λ r. ⌜ Runs word n r ⌝ }
+// Bit k of the result is set where the 2 e bits from k on are, e the eighths of a level's cell: runs of 2 bits, and a
+// run of twice as many for each level above level 3.
+fn runs(word: u64, level: usize) -> u64
+    requires { ⌜ level ≤ 3 ⌝ }
+    ensures { λ r. ⌜ Runs word (2 * Sheet.eighths level) r ⌝ }
 {
-    let mut run = word;
-    let mut c = 1;
-    while c < n {
-        run = run & (word >> c);
-        c += 1;
+    let two = word & (word >> 1);
+    if level == 3 {
+        return two;
     }
-    run
+    let four = two & (two >> 2);
+    if level == 2 {
+        return four;
+    }
+    let eight = four & (four >> 4);
+    if level == 1 {
+        return eight;
+    }
+    eight & (eight >> 8)
 }
 
 // Of row b of a level, the functions whose cut support lies in the region of a level from 1 to 3.
@@ -133,10 +128,9 @@ pub fn region_row(
     let low = first + window.low;
     let high = first + window.high;
     let word = common(rows, low, high);
-    let e = eighths(level);
-    let odd = runs(padded(word, w), 2 * e);
+    let odd = runs(padded(word, w), level);
     // Every other support of level 3 halves two quarters and so covers three: two runs of two.
-    let even = if e == 1 { odd & (odd >> 1) } else { odd };
+    let even = if level == 3 { odd & (odd >> 1) } else { odd };
     Marks { even, odd }
 }
 

@@ -1,7 +1,7 @@
 -- `region_row` meets its contract.
 use native.Mathlib.Omega.{arith}
 use borrow.Author.Needs.{needs}
-use Rattle.activity.proofs.WindowLaws.{functions-le, eighths-le, eighths-some, window-fits, window-order}
+use Rattle.activity.proofs.WindowLaws.{functions-le, window-fits, window-order}
 use Rattle.rows.specs.Rows.{levelsOf}
 use Rattle.activity.specs.Marks.{RegionRow}
 use Rattle.activity.specs.declared.Marks.{Marks}
@@ -42,27 +42,19 @@ common-requires c κs =
       window-order (s .args .h) (s .args .level) (s .args .b) (s .pre .2) (s .pre .3),
     )
 
-eighths-requires : tie.Need-eighths-requires
-eighths-requires c κs = search needs
-
 padded-requires : tie.Need-padded-requires
 padded-requires c κs = search needs
 
-mul-runs : tie.Need-mul-runs
-mul-runs c = omega (arith, c .before .eighths .ensures, eighths-le (c .before .before .before .before .before .before .args .level))
-
 runs-requires : tie.Need-runs-requires
-runs-requires c κs =
-    let level = c .before .before .before .before .before .before .args .level in
-    omega (arith, c .before .eighths .ensures, eighths-le level, eighths-some level)
+runs-requires c κs = search needs
 
 -- the runs in the word of the rows under the supports give the marks
 found : (c : tie.After-runs) (m : Marks)
-    → MarkRun (c .before .before .before .before .before .before .before .args .level) (c .before .padded .result) m
-    → let a = c .before .before .before .before .before .before .before .args in
-    RegionRow (a .w) (a .h) (a .level) (a .b) (a .region) (levelsOf (a .rows .now)) m
+    → let a = c .before .before .before .before .before .before .args in
+    MarkRun (a .level) (c .before .padded .result) m
+    → RegionRow (a .w) (a .h) (a .level) (a .b) (a .region) (levelsOf (a .rows .now)) m
 found c m run =
-    let taken = c .before .before .before in
+    let taken = c .before .before in
     let window = taken .before .before .before .window-of in
     let s = taken .before .before .before .before in
     let a = s .args in
@@ -72,19 +64,17 @@ found c m run =
 
 returns : tie.Need-returns
 returns c =
-    let level = c .before .before .before .before .before .before .before .before .args .level in
-    let side = c .before .before .before .eighths in
+    let level = c .before .before .before .before .before .before .before .args .level in
     found (c .before) _
-    (fine-run level (side .result) (c .before .before .padded .result) (c .before .runs .result) (side .ensures)
-    (c .if1 .taken) (c .before .runs .ensures))
+    (fine-run level (c .before .before .padded .result) (c .before .runs .result) (c .if1 .taken)
+    (c .before .runs .ensures))
 
 returns-2 : tie.Need-returns-2
 returns-2 c =
-    let s = c .before .before .before .before .before .before .before .before in
-    let side = c .before .before .before .eighths in
+    let s = c .before .before .before .before .before .before .before in
     found (c .before) _
-    (coarse-run (s .args .level) (side .result) (c .before .before .padded .result) (c .before .runs .result)
-    (s .pre .2) (side .ensures) (c .if1 .left) (c .before .runs .ensures))
+    (coarse-run (s .args .level) (c .before .before .padded .result) (c .before .runs .result) (s .pre .2)
+    (c .if1 .left) (c .before .runs .ensures))
 
 pub region-row-spec : {M : Type 1} → statement M
 region-row-spec =
@@ -96,9 +86,7 @@ region-row-spec =
     add-low
     add-high
     common-requires
-    eighths-requires
     padded-requires
-    mul-runs
     runs-requires
     returns
     returns-2)
