@@ -144,7 +144,8 @@ pub inserted-leaf : {x y side at : ℕ} {rows new before : List ℕ} (box : Box)
 inserted-leaf {x} {y} {side} {at} {rows} {new} {before} box level some low t up size fits =
     record {
       raises = painted-cong (up .painted) λ i j hi hj.
-          sym (ap (λ t. cond t level 0) (t .inside (x + i) (y + j) (omega arith) (omega arith) (omega arith) (omega arith)));
+          sym (ap (λ t. cond t level 0)
+          (t .inside (x + i) (y + j) (omega arith) (omega arith) (omega arith) (omega arith)));
       builds = built-leaf x y side at level (raised (levelsOf rows) box level) before some size fits low λ q r a b c d.
           ap (λ t. cond t (max (levelsOf rows q r) level) (levelsOf rows q r)) (t .inside q r a b c d)
           ∙ omega (arith, t .low q r a b c d);

@@ -96,7 +96,8 @@ module _ {x y side : ℕ} {rows new : List ℕ} where
 pub none-level : {rows : List ℕ} (l x y side : ℕ) → l < 3 → Nested rows → x + side ≤ 32 → y + side ≤ 32
     → NoneIn l x y side side rows → (q r : ℕ) → x ≤ q → q < x + side → y ≤ r → r < y + side → levelsOf rows q r ≤ l
 none-level {rows} l x y side few n fx fy none q r xq qx yr ry =
-    go l few (none q r xq qx yr ry) (n .second q r (omega arith) (omega arith)) (n .third q r (omega arith) (omega arith))
+    go l few (none q r xq qx yr ry) (n .second q r (omega arith) (omega arith))
+    (n .third q r (omega arith) (omega arith))
     (bit-small (getD rows (0 * 32 + r) 0) q)
   where
     go : (l : ℕ) → l < 3 → inRows rows l q r ≡ 0 → inRows rows 1 q r ≤ inRows rows 0 q r

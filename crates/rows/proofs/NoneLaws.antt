@@ -33,7 +33,8 @@ module _ (rows : List ℕ) (l x n mask : ℕ) (fits : x + n ≤ 32)
           omega (arith, both, set, bit-small word q)
 
   -- no square of a row: the mask meets no bit
-  pub none-met : (y i : ℕ) → mask < 2 ^ 32 → NoneIn l x y n (i + 1) rows → bitAnd (getD rows (l * 32 + y + i) 0) mask ≡ 0
+  pub none-met : (y i : ℕ) → mask < 2 ^ 32 → NoneIn l x y n (i + 1) rows
+      → bitAnd (getD rows (l * 32 + y + i) 0) mask ≡ 0
   none-met y i small none =
       bits-same 32 (bitAnd word mask) 0 (omega (arith, and-le-r word mask)) (omega arith) λ q hq.
       bit-and word mask q ∙ ap (min (bit word q)) (span q hq) ∙ go q (inSpan x n q) refl ∙ sym (bit-zero q)

@@ -43,8 +43,8 @@ returns c =
     let a = s .args in (
       λ e. absurd (false≢true e),
       λ _ none. c .if1 .taken
-          (none-met (a .rows .now) (a .l) (a .x) (a .side) (call .span .result) (s .pre .2) (call .span .ensures) (a .y)
-          (at-loop .loop .i) (call .span .ok) (λ q r xq qx yr ry. none q r xq qx yr (omega arith))),
+          (none-met (a .rows .now) (a .l) (a .x) (a .side) (call .span .result) (s .pre .2) (call .span .ensures)
+          (a .y) (at-loop .loop .i) (call .span .ok) (λ q r xq qx yr ry. none q r xq qx yr (omega arith))),
     )
 
 add-i : tie.Need-add-i Inv-loop μ-loop

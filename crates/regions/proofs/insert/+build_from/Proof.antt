@@ -106,7 +106,8 @@ module _ (n : ℕ) where
       let d = c .before .before .before in
       let h = half d in
       let p = d .before .before .before .pre .1 in
-      (omega arith, (omega arith, omega arith, (h .j, h .half), omega arith, c .before .build-from .ensures .size, p .5))
+      let size = c .before .build-from .ensures .size in
+      (omega arith, (omega arith, omega arith, (h .j, h .half), omega arith, size, p .5))
 
   add-build-from-3 : lts.Need-add-build-from-3 (claims n) (given n) self.Post
   add-build-from-3 c = omega arith
@@ -117,7 +118,8 @@ module _ (n : ℕ) where
       let d = c .before .before .before .before .before in
       let h = half d in
       let p = d .before .before .before .pre .1 in
-      (omega arith, (omega arith, omega arith, (h .j, h .half), omega arith, c .before .build-from2 .ensures .size, p .5))
+      let size = c .before .build-from2 .ensures .size in
+      (omega arith, (omega arith, omega arith, (h .j, h .half), omega arith, size, p .5))
 
   add-build-from-4 : lts.Need-add-build-from-4 (claims n) (given n) self.Post
   add-build-from-4 c = omega arith
@@ -131,7 +133,8 @@ module _ (n : ℕ) where
       let d = c .before .before .before .before .before .before .before in
       let h = half d in
       let p = d .before .before .before .pre .1 in
-      (omega arith, (omega arith, omega arith, (h .j, h .half), omega arith, c .before .build-from3 .ensures .size, p .5))
+      let size = c .before .build-from3 .ensures .size in
+      (omega arith, (omega arith, omega arith, (h .j, h .half), omega arith, size, p .5))
 
   join-requires : lts.Need-join-requires (claims n) (given n) self.Post
   join-requires c κs =

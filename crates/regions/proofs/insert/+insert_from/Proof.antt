@@ -74,7 +74,7 @@ module _ (n : ℕ) where
       halved (start d .args .side) (k .0) (k .1) (d .before .before .before .if2 .left)
 
   meets-requires : lts.Need-meets-requires (claims n) (given n) self.Post
-  meets-requires c κs = (c .pre .1 .0, c .pre .1 .1)
+  meets-requires c κs = (omega (arith, c .pre .1 .0), omega (arith, c .pre .1 .1))
 
   build-from-requires : lts.Need-build-from-requires (claims n) (given n) self.Post
   build-from-requires c κs =
@@ -94,7 +94,7 @@ module _ (n : ℕ) where
   raise-quarter-requires c κs =
       let s = c .before .before .before .before in
       let p = s .pre .1 in
-      (omega arith, omega arith, p .5, p .6)
+      (omega arith, omega arith, omega (arith, p .5), p .6)
 
   level-at-requires : lts.Need-level-at-requires (claims n) (given n) self.Post
   level-at-requires c κs = (omega arith, omega arith)
