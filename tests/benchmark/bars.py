@@ -8,7 +8,7 @@ from typing import Callable, Dict, List, NamedTuple
 
 from measure import BEYOND, CALLS, LARGEST, LARGEST_FILE, READINGS, UNREFINED, Figures, calls_on, counted_on
 
-RATIO = 1.25
+RATIO = 1.35
 CHECK = 150_000
 CHECK_UNREFINED = 64_000
 INSERTION = 450_000
