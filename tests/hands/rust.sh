@@ -1,6 +1,6 @@
 #!/usr/bin/env bash
-# The Rust crate: its tests, doc tests, layout and lints; its examples held to the evaluator; what a refusal shows where
-# main returns it; and where the archive is looked for.
+# The Rust crate: its tests, doc tests, layout and lints; its examples held to the evaluator; what a refusal shows
+# where main returns it; and where the archive is looked for.
 #
 # Run as: tests/hands/rust.sh, once target/staticlib/libkiln.a is built
 set -euo pipefail

@@ -118,5 +118,6 @@ padded-bit W word hW k hk =
     go (no l) (no e) = rw (le-ltb k 16 (omega arith), le-leb (16 + quarters W) k (omega arith)) (omega (arith, small))
     go (no l) (yes e) =
         let place : k ≡ 16 + (k - 16) = omega arith in
-        let here : bit (word * 65536) k ≡ bit word (k - 16) = ap (bit (word * 65536)) place ∙ bit-shl word 16 (k - 16) in
+        let here : bit (word * 65536) k ≡ bit word (k - 16) = ap (bit (word * 65536)) place
+        ∙ bit-shl word 16 (k - 16) in
         rw (le-ltb k 16 (omega arith), lt-leb (16 + quarters W) k e) (omega (arith, here))

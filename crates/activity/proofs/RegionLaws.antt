@@ -105,7 +105,8 @@ mark-run L word m runs pairs a = go (a % 2) refl
                 arith,
                 run place .1 (λ j hj. h j (omega arith)),
                 run (place + e % 2) .1
-                    (λ j hj. subst (λ k. 1 ≤ bit word k) (sym (add-assoc place (e % 2) j)) (h (e % 2 + j) (omega arith))),
+                    (λ j hj. subst (λ k. 1 ≤ bit word k) (sym (add-assoc place (e % 2) j))
+                    (h (e % 2 + j) (omega arith))),
               ))),
         )
     go (suc d) p =
@@ -151,7 +152,8 @@ common-bit rows first low high word q common hq =
           subst (λ p. 1 ≤ bit (getD rows p 0) q) place
           (all-ones n f .0 (rw (common q hq) at h) (r - low) (omega arith)),
       λ h. rw (common q hq)
-          (all-ones n f .1 λ k l. subst (λ p. 1 ≤ bit (getD rows p 0) q) (omega arith) (h (low + k) (omega arith) (omega arith))),
+          (all-ones n f .1 λ k l. subst (λ p. 1 ≤ bit (getD rows p 0) q) (omega arith)
+          (h (low + k) (omega arith) (omega arith))),
     )
 
 -- a quarter lies in the region of level l + 1 exactly when its level is at least that
@@ -169,7 +171,11 @@ nested-level rows l q r n hl hq hr = go l hl
     small l = bit-small (getD rows (l * 32 + r) 0) q
 
     go : (l : ℕ) → l < 3 → (1 ≤ inRows rows l q r) ↔ (suc l ≤ levelsOf rows q r)
-    go zero h = (λ e. omega (arith, s, t, small 0, small 1, small 2), λ e. omega (arith, s, t, small 0, small 1, small 2))
+    go zero h = (
+      λ e. omega (arith, s, t, small 0, small 1, small 2),
+      λ e. omega
+          (arith, s, t, small 0, small 1, small 2),
+    )
     go (suc zero) h =
         (λ e. omega (arith, s, t, small 0, small 1, small 2), λ e. omega (arith, s, t, small 0, small 1, small 2))
     go (suc (suc zero)) h =
@@ -196,7 +202,8 @@ module _ (W H L b l : ℕ) (rows : List ℕ) (word padded : ℕ) (m : Marks) (ne
 
     pub region-marks : RegionRow W H L b (suc l) (levelsOf rows) m
     unfolding leastUnder
-    region-marks a ha = same-test (marked (eighths L) m a) (leb (suc l) (leastUnder W H (levelsOf rows) L a b)) there back
+    region-marks a ha = same-test (marked (eighths L) m a) (leb (suc l) (leastUnder W H (levelsOf rows) L a b)) there
+        back
       where
         under : ℕ → ℕ → Bool
         under q r = shares W L a q && shares H L b r

@@ -79,8 +79,8 @@ fn common(rows: &[u32; 96], from: usize, to: usize) -> u32
     word
 }
 
-// A row of quarters with 16 places before it; those and the places past the sheet's edge are set, since "its support is
-// cut to the sheet".
+// A row of quarters with 16 places before it; those and the places past the sheet's edge are set, since "its support
+// is cut to the sheet".
 fn padded(word: u32, w: usize) -> u64
     requires { ⌜ w ≤ 8 ⌝ }
     ensures { λ r. ⌜ PaddedTo w word r ⌝ }

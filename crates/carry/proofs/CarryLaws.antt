@@ -56,7 +56,8 @@ row-own s own two f first n b k a size e h =
     ∙ getD-append-add s (rowsWritten n b f own) (b * n + a) (pos 0)
     ∙ unwritten (grid n b f) own (b * n) a (pos 0) (length-grid n b f)
 
-pub row-carried : (W H L n b e : ℕ) (rows : List ℕ) (inside : Marks) (s own sums row : List ℤ) → n ≡ functions W (L + 1)
+pub row-carried : (W H L n b e : ℕ) (rows : List ℕ) (inside : Marks) (s own sums row : List ℤ)
+    → n ≡ functions W (L + 1)
     → e ≡ eighths (L + 1) → RegionRow W H (L + 1) b (L + 1) (levelsOf rows) inside → AlongV (functions W L) b s sums
     → length row ≡ n → ((a : ℕ) → a < n → getD row a (pos 0) ≡ getD own (b * n + a) (pos 0))
     → rowCarried (marked e inside) sums row ≡ tableFrom 0 n (λ a. carriedAt W H L rows s own a b)
@@ -96,7 +97,8 @@ module _ (W H : ℕ) (rows : List ℕ) (cs : List ℤ) where
   -- a part that holds the carried values of level L
   pub record Holds (L : ℕ) (s : List ℤ) : Type 0 where
     pub size : length s ≡ places W H L
-    pub values : (a b : ℕ) → a < functions W L → b < functions H L → getD s (b * functions W L + a) (pos 0) ≡ value L a b
+    pub values : (a b : ℕ) → a < functions W L → b < functions H L
+        → getD s (b * functions W L + a) (pos 0) ≡ value L a b
 
   -- they are small enough for a sum of them
   pub holds-within : (L : ℕ) (s : List ℤ) → L < 3 → CarriedFit W H rows cs → Holds L s → Within 131072000 s
@@ -160,7 +162,8 @@ module _ (W H : ℕ) (rows : List ℕ) (cs : List ℤ) where
 
     two-at : (i : ℕ) → i < length two → getD two i (pos 0) ≡ getD out (from + i) (pos 0)
     two-at i h =
-        getD-take (end - from) (drop from out) i (pos 0) (omega (arith, parts, two-size)) ∙ getD-drop from out i (pos 0)
+        getD-take (end - from) (drop from out) i (pos 0) (omega (arith, parts, two-size))
+        ∙ getD-drop from out i (pos 0)
 
     front-at : (i : ℕ) → i < places W H L → getD front i (pos 0) ≡ getD out (from + i) (pos 0)
     front-at i h = getD-take (places W H L) two i (pos 0) h ∙ two-at i (omega (arith, two-size))

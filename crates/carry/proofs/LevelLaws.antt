@@ -8,7 +8,16 @@ use native.Mathlib.Decide.{decLt}
 use native.Mathlib.Omega.{arith}
 use lib.IntN.{ℤ, pos}
 use lib.ListN.{length, getD, set, take, drop, length-append, length-take, length-drop, List·getD-append}
-use lib.Seq.{length-take-le, getD-append-add, getD-take, getD-drop, drop-drop, take-append-add, drop-append-add, ext-getD}
+use lib.Seq.{
+  length-take-le,
+  getD-append-add,
+  getD-take,
+  getD-drop,
+  drop-drop,
+  take-append-add,
+  drop-append-add,
+  ext-getD,
+}
 use mir.Syntax.{w64}
 use mir.Val.{SFits, toZ, ofZ}
 use mir.ValLaws.{toZ-ofZ}
@@ -113,7 +122,8 @@ module _ {A : Type 0} where
 -- ---- a row is written place after place
 
 -- a function of a number that is read, called and stored
-pub through : (g : ℤ → ℤ) {z r : ℤ} → SFits w64 z → SFits w64 r → r ≡ g (toZ w64 (ofZ w64 z)) → toZ w64 (ofZ w64 r) ≡ g z
+pub through : (g : ℤ → ℤ) {z r : ℤ} → SFits w64 z → SFits w64 r → r ≡ g (toZ w64 (ofZ w64 z))
+    → toZ w64 (ofZ w64 r) ≡ g z
 through g {z} {r} read made e = toZ-ofZ w64 r made ∙ e ∙ ap g (toZ-ofZ w64 z read)
 
 -- each place by its index and what stood there

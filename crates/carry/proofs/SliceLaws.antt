@@ -15,7 +15,8 @@ use Rattle.surface.proofs.TableLaws.{start-step, slice-length, slice-coefficien
 
 -- what holds at the places of the levels below k holds at each place before the start of level k
 each-place : (W H k : ℕ) (P : ℕ → Type 0)
-    → ((L a b : ℕ) → L < k → a < functions W L → b < functions H L → P (place W H L a b)) → (p : ℕ) → p < start W H k → P p
+    → ((L a b : ℕ) → L < k → a < functions W L → b < functions H L → P (place W H L a b)) → (p : ℕ) → p < start W H k
+    → P p
 each-place W H zero P h p l = unfold start in absurd (omega arith)
 each-place W H (suc k) P h p l =
     go (each-place W H k P (λ L a b hL. h L a b (omega arith)) p) (decLt p (start W H k))

@@ -19,8 +19,8 @@ fn kept(number: i64, m: activity::Marks, a: usize, e: usize) -> i64
     }
 }
 
-// Clears one row of a level, whose active functions are marked; a cell's side is e eighths. Even and odd functions have
-// words of marks of their own, so they are taken in pairs.
+// Clears one row of a level, whose active functions are marked; a cell's side is e eighths. Even and odd functions
+// have words of marks of their own, so they are taken in pairs.
 fn clear_row(row: &mut [i64], m: activity::Marks, e: usize)
     requires { ⌜ (length (now row) * e ≤ 88) × (1 ≤ e) × (e ≤ 8) ⌝ }
     ensures { λ _. ⌜ now (row .exit) ≡ rowCleared (marked e m) (now (row .entry)) ⌝ }

@@ -39,7 +39,8 @@ module _ (W H : ℕ) (lev : ℕ → ℕ → ℕ) (coef : ℕ → ℕ → ℕ →
   unfolding patch
   entry-is = rw next
 
-  -- from what was found of it: whether it lies in the region, its own coefficient, and what the coarser patch p subdivides to
+  -- from what was found of it: whether it lies in the region, its own coefficient, and what the coarser patch p
+  -- subdivides to
   pub next-entry : (p : ℕ → ℕ → ℤ) (a b : ℕ) (inside : Bool) {own coarse : ℤ} → k < 4 → l < 4
       → a ≡ cellOf W M u → b ≡ cellOf H M v
       → ((i j : ℕ) → i < 4 → j < 4 → p i j ≡ patch W H lev coef u v L i j)
@@ -86,7 +87,8 @@ module _ (W H : ℕ) (rows : List ℕ) (cs : List ℤ) (u v : ℕ) (given : Read
   acc = given .2 .2
 
   by-tree : (L k l : ℕ) → k < 4 → l < 4
-      → patch W H (levelsOf rows) (coefficients W H cs) u v L k l ≡ patch W H (levels t) (coefficients W H cs) u v L k l
+      → patch W H (levelsOf rows) (coefficients W H cs) u v L k l ≡ patch W H (levels t) (coefficients W H cs) u v L
+      k l
   by-tree =
       let n = sides (sound W H t cs acc) in
       patch-cong W H (levelsOf rows) (levels t) (coefficients W H cs) u v

@@ -183,7 +183,8 @@ some-area side k e =
     (positive, mul-le-mul positive positive)
 
 -- a tree written behind others leaves them, and stands after them
-onward : {ls : List ℕ} {at mid next x y side : ℕ} {lev : ℕ → ℕ → ℕ} {m new : List ℕ} (k : ℕ) → side ≡ 2 ^ k → Stands ls at mid m
+onward : {ls : List ℕ} {at mid next x y side : ℕ} {lev : ℕ → ℕ → ℕ} {m new : List ℕ} (k : ℕ) → side ≡ 2 ^ k
+    → Stands ls at mid m
     → BuiltFrom x y side lev mid next m new → Stands (ls ++ bytesOf k x y lev) at next new
 onward k e s d = stands-append (stands-kept s (d .before-it)) (d .tree k e)
 
@@ -226,7 +227,8 @@ region-join : (k x y h : ℕ) (lev : ℕ → ℕ → ℕ) → h ≡ 2 ^ k
 unfolding regionTree
 region-join k x y h lev e = rw e
 
-pub built-four : (x y side at : ℕ) (lev : ℕ → ℕ → ℕ) {p₁ p₂ p₃ p₄ next : ℕ} {out m₁ m₂ m₃ m₄ new : List ℕ} → Halved side
+pub built-four : (x y side at : ℕ) (lev : ℕ → ℕ → ℕ) {p₁ p₂ p₃ p₄ next : ℕ} {out m₁ m₂ m₃ m₄ new : List ℕ}
+    → Halved side
     → BuiltFrom x y (side / 2) lev (at + 1) p₁ out m₁
     → BuiltFrom (x + side / 2) y (side / 2) lev p₁ p₂ m₁ m₂
     → BuiltFrom x (y + side / 2) (side / 2) lev p₂ p₃ m₂ m₃

@@ -40,7 +40,8 @@ apart x y side box q r none lu hu lv hv =
     (λ e.
     let s = both (leb (box .u0) q && ltb q (box .u1)) (leb (box .v0) r && ltb r (box .v1)) e in
     let shared : sharesArea x y side box ≡ true =
-    ap₂ _&&_ (in-shares (box .u0) (box .u1) x side q lu hu (s .0)) (in-shares (box .v0) (box .v1) y side r lv hv (s .1)) in
+    ap₂ _&&_ (in-shares (box .u0) (box .u1) x side q lu hu (s .0))
+    (in-shares (box .v0) (box .v1) y side r lv hv (s .1)) in
     absurd (true≢false (sym shared ∙ none)))
     (λ _. refl)
 
@@ -58,7 +59,8 @@ quarter-in x y box e =
 
 -- ---- a tree by levels that agree in its square
 
-built-cong : {x y side at next : ℕ} {f g : ℕ → ℕ → ℕ} {before after : List ℕ} → BuiltFrom x y side f at next before after
+built-cong : {x y side at next : ℕ} {f g : ℕ → ℕ → ℕ} {before after : List ℕ}
+    → BuiltFrom x y side f at next before after
     → ((q r : ℕ) → x ≤ q → q < x + side → y ≤ r → r < y + side → f q r ≡ g q r)
     → BuiltFrom x y side g at next before after
 built-cong {x} {y} {side} {at} {next} {f} {g} {before} {after} d same =
@@ -86,7 +88,8 @@ inserted-none {x} {y} {side} {at} {next} {rows} box level none size d =
             size = size;
             bits = λ l q r hl hq hr.
                 pick (inSpan x side q && inSpan y side r)
-                (λ t. inRows rows l q r ≡ max (inRows rows l q r) (cond t (above l (named box level x y (q - x) (r - y))) 0))
+                (λ t. inRows rows l q r ≡ max (inRows rows l q r)
+                (cond t (above l (named box level x y (q - x) (r - y))) 0))
                 (λ e.
                 let s = both (inSpan x side q) (inSpan y side r) e in
                 let u = span-true x side q (s .0) in
@@ -97,7 +100,8 @@ inserted-none {x} {y} {side} {at} {next} {rows} box level none size d =
                 (λ _. omega arith);
           };
       builds = built-cong d λ q r a b c e.
-          sym (ap (λ t. cond t (max (levelsOf rows q r) level) (levelsOf rows q r)) (apart x y side box q r none a b c e));
+          sym (ap (λ t. cond t (max (levelsOf rows q r) level) (levelsOf rows q r))
+          (apart x y side box q r none a b c e));
     }
 
 -- ---- a single quarter
@@ -209,9 +213,12 @@ inserted-four {x} {y} {side} {at} {box} {level} {m₀} {m₁} {m₂} {m₃} {m�
       raises = rw (← whole) (painted-named box level (d₁ .raises) (d₂ .raises) (d₃ .raises) (d₄ .raises));
       builds = built-four x y side at (raised (levelsOf m₀) box level) s
           (d₁ .builds)
-          (built-cong (d₂ .builds) λ q r a b c e. ap (raise q r) (second-old box level (d₁ .raises) (d₂ .raises) (d₃ .raises) q r (omega arith) (omega arith) a))
-          (built-cong (d₃ .builds) λ q r a b c e. ap (raise q r) (third-old box level (d₁ .raises) (d₂ .raises) (d₃ .raises) q r (omega arith) (omega arith) c))
-          (built-cong (d₄ .builds) λ q r a b c e. ap (raise q r) (fourth-old box level (d₁ .raises) (d₂ .raises) (d₃ .raises) q r (omega arith) (omega arith) a c))
+          (built-cong (d₂ .builds) λ q r a b c e. ap (raise q r)
+          (second-old box level (d₁ .raises) (d₂ .raises) (d₃ .raises) q r (omega arith) (omega arith) a))
+          (built-cong (d₃ .builds) λ q r a b c e. ap (raise q r)
+          (third-old box level (d₁ .raises) (d₂ .raises) (d₃ .raises) q r (omega arith) (omega arith) c))
+          (built-cong (d₄ .builds) λ q r a b c e. ap (raise q r)
+          (fourth-old box level (d₁ .raises) (d₂ .raises) (d₃ .raises) q r (omega arith) (omega arith) a c))
           jn;
     }
   where

@@ -60,7 +60,8 @@ module _ {x y side : ℕ} {rows new : List ℕ} where
         → lev (q - x) (r - y) ≤ 3 → levelsOf new q r ≡ max (levelsOf rows q r) (lev (q - x) (r - y))
     level-inside n q r hq hr xq qx yr ry low =
         rw (bits 0 (omega arith), bits 1 (omega arith), bits 2 (omega arith))
-        (sums (inRows rows 0 q r) (inRows rows 1 q r) (inRows rows 2 q r) (lev (q - x) (r - y)) (small 0) (n .second q r hq hr)
+        (sums (inRows rows 0 q r) (inRows rows 1 q r) (inRows rows 2 q r) (lev (q - x) (r - y)) (small 0)
+        (n .second q r hq hr)
         (n .third q r hq hr) low)
       where
         small : (l : ℕ) → inRows rows l q r < 2

@@ -117,7 +117,8 @@ fn insert_from(
     requires { ⌜ (x + side ≤ 32) × (y + side ≤ 32) × ((k : ℕ) × (side ≡ 2 ^ k))
         × (3 * at + 4 * (side * side) ≤ 4096) × (length (now out) ≡ 1365) × (level ≤ 3)
         × (length (now rows) ≡ 96) × Nested (now rows) ⌝ }
-    ensures { λ r. ⌜ InsertedFrom x y side (boxAt (now (corners .entry))) level (now (rows .entry)) (now (rows .exit)) at r
+    ensures { λ r. ⌜ InsertedFrom x y side (boxAt (now (corners .entry))) level (now (rows .entry))
+        (now (rows .exit)) at r
         (now (out .entry)) (now (out .exit)) ⌝ }
 {
     if !quadtree::visit::meets(x, y, side, corners) {

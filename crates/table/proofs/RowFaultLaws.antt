@@ -100,6 +100,7 @@ same-marks m mark active row same f =
           ∙ ap not (every-cong (length row) (λ a. keepsLimit m (mark a) (coef row a))
           (λ a. keepsLimit m (active a) (coef row a)) (λ k l. ap (λ t. keepsLimit m t (coef row k)) (same k l)));
       zeros = f .zeros
-          ∙ ap not (every-cong (length row) (λ a. keepsZero (mark a) (coef row a)) (λ a. keepsZero (active a) (coef row a))
+          ∙ ap not (every-cong (length row) (λ a. keepsZero (mark a) (coef row a))
+          (λ a. keepsZero (active a) (coef row a))
           (λ k l. ap (λ t. keepsZero t (coef row k)) (same k l)));
     }

@@ -15,7 +15,8 @@ pub fn good_side(n: usize) -> bool
 
 // Causes 1 and 2: the sides and the tree, with its regions where none applies.
 pub fn region_cause(w: usize, h: usize, t: &[u8], rows: &mut [u32; 96]) -> u8
-    ensures { λ r. ⌜ (r ≡ regionCause w h (now (t .entry))) × (r ≡ 0 → now (rows .exit) ≡ levelRows (now (t .entry))) ⌝ }
+    ensures { λ r. ⌜ (r ≡ regionCause w h (now (t .entry)))
+        × (r ≡ 0 → now (rows .exit) ≡ levelRows (now (t .entry))) ⌝ }
 {
     if good_side(w) {
         if good_side(h) {

@@ -22,7 +22,8 @@ returns c =
     let own = c .before .before .before .inside in
     let finer = c .before .before .beyond in
     let a = c .before .before .before .before .args in
-    active-marks (a .w) (a .h) (a .level) (a .b) (levelsOf (a .rows .now)) (own .result) (finer .result) _ (own .ensures)
+    active-marks (a .w) (a .h) (a .level) (a .b) (levelsOf (a .rows .now)) (own .result) (finer .result) _
+    (own .ensures)
     (finer .ensures) (c .before .without .ensures) (c .without2 .ensures)
 
 pub active-row-spec : {M : Type 1} → statement M

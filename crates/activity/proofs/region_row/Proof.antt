@@ -10,8 +10,12 @@ use Rattle.activity.proofs.region_row.Statement.{statement}
 use Rattle.activity.proofs.region_row.Tie as tie
 
 window-of-requires : tie.Need-window-of-requires
-window-of-requires c κs =
-    (c .pre .1, c .pre .2, omega (arith, functions-le (c .args .h) (c .args .level) (c .pre .1) (c .pre .2), c .pre .3))
+window-of-requires c κs = (
+  c .pre .1,
+  c .pre .2,
+  omega
+      (arith, functions-le (c .args .h) (c .args .level) (c .pre .1) (c .pre .2), c .pre .3),
+)
 
 mul-first : tie.Need-mul-first
 mul-first c = search needs

@@ -113,7 +113,8 @@ returns-2 c t r =
     (put-there .put .ensures
     ∙ ap (λ l. put l (a .tree-out .now))
     (ap (λ k. take k (b .insert .last .1 .1 .1 .0)) (sub-zero (b .insert .result)) ∙ built b t (r .0)))
-    (new-coefficients t (a .rows .now) (r .0) (boxOf (a .a)) (a .level) (b .insert .ensures) (a .w) (a .h) (n .1) (n .3)
+    (new-coefficients t (a .rows .now) (r .0) (boxOf (a .a)) (a .level) (b .insert .ensures) (a .w) (a .h) (n .1)
+    (n .3)
     (a .cs .now) (carried .last .1 .1 .1 .1 .0) (cleared .last .0) (carried .ensures) (cleared .ensures))
 
 pub insert-box-spec : {M : Type 1} → statement M

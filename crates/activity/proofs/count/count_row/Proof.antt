@@ -1,5 +1,5 @@
--- `count_row` meets its contract: before each turn the marked functions below a are counted, and the two words start with
--- the pair of function a.
+-- `count_row` meets its contract: before each turn the marked functions below a are counted, and the two words start
+-- with the pair of function a.
 use mathlib.Core.Path.{_≡_, refl, ap, _∙_}
 use Prim.Native.Nat.{ℕ, _≤_, _+_, _-_, _%_}
 use native.Mathlib.Omega.{arith}

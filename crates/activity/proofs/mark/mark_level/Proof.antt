@@ -71,7 +71,8 @@ mark-row-requires c κs =
     let at = c .before .before .before .loop .b * n in
     let size : length (take (at + n - at) (drop at (c .before .before .before .loop .out))) ≡ n =
     c .mark-row-arg .given .2 ∙ count at n in (
-      rw size (row-size (args .w) (args .level) n (side .result) (start .pre .0) (start .pre .2) (start .pre .3) (side .ensures)),
+      rw size (row-size (args .w) (args .level) n (side .result) (start .pre .0) (start .pre .2) (start .pre .3)
+          (side .ensures)),
       omega (arith, side .ensures, eighths-some (args .level)),
       omega (arith, side .ensures, eighths-le (args .level)),
     )

@@ -66,7 +66,8 @@ returns : tie.Need-returns Inv-loop μ-loop
 returns c =
     let s = c .before .before .before .before .before in
     let a = c .before .before .loop .a in
-    pairs-written (s .args .e) (s .args .m) (s .pre .2) (a + 1) (s .args .row .now) _ (c .if1 .taken) (first (c .before))
+    pairs-written (s .args .e) (s .args .m) (s .pre .2) (a + 1) (s .args .row .now) _ (c .if1 .taken)
+    (first (c .before))
 
 cast-row-2 : tie.Need-cast-row-2 Inv-loop μ-loop
 cast-row-2 c = omega arith

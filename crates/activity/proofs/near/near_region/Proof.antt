@@ -31,7 +31,8 @@ asks c k hk =
     let level = s .args .level in
     let n = functions (s .args .w) level in
     let e = c .eighths .result in (
-      index-fits n (s .args .a + k) e (row-size (s .args .w) level n e (s .pre .0) (s .pre .3) refl (c .eighths .ensures))
+      index-fits n (s .args .a + k) e
+          (row-size (s .args .w) level n e (s .pre .0) (s .pre .3) refl (c .eighths .ensures))
           (omega (arith, c .eighths .ensures, eighths-some level))
           (omega (arith, s .pre .4)),
       omega (arith, c .eighths .ensures, eighths-le level),

@@ -20,8 +20,11 @@ abbrev μ-loop : tie.MeasureT-loop
 
 loop-holds : tie.Need-loop-holds Inv-loop μ-loop
 loop-holds c =
-    let a = c .args in
-    (omega arith, no-level (a .w) (a .h) (clearedValue (a .w) (a .h) (a .rows .now) (a .out .now)) (a .out .now) (c .pre .2))
+    let a = c .args in (
+      omega arith,
+      no-level (a .w) (a .h) (clearedValue (a .w) (a .h) (a .rows .now) (a .out .now)) (a .out .now)
+          (c .pre .2),
+    )
 
 start-requires : tie.Need-start-requires Inv-loop μ-loop
 start-requires c κs = search needs

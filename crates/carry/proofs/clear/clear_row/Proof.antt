@@ -52,7 +52,8 @@ first : (c : tie.After-kept Inv-loop μ-loop)
 first c =
     let loop = c .before .before .before .loop in
     let args = c .before .before .before .before .args in
-    next-mapped (loop .a) (step (args .e) (args .m)) (args .row .now) (loop .row) (toZ w64 (ofZ w64 (c .kept .result))) (omega arith)
+    next-mapped (loop .a) (step (args .e) (args .m)) (args .row .now) (loop .row)
+    (toZ w64 (ofZ w64 (c .kept .result))) (omega arith)
     (loop .inv .2)
     (through (step (args .e) (args .m) (loop .a)) (sfits-of (c .before .kept-arg .given)) (sfits-of (c .kept .ok))
     (c .kept .ensures))
@@ -84,8 +85,11 @@ slice-copy-out-kept-2 c = simp length-set (omega arith)
 kept-requires-2 : tie.Need-kept-requires-2 Inv-loop μ-loop
 kept-requires-2 c κs =
     let loop = c .before .before .before .before .before .loop in
-    let s = c .before .before .before .before .before .before in
-    (index-fits (length (s .args .row .now)) (loop .a + 1) (s .args .e) (s .pre .0) (s .pre .1) (omega arith), s .pre .2)
+    let s = c .before .before .before .before .before .before in (
+      index-fits (length (s .args .row .now)) (loop .a + 1) (s .args .e) (s .pre .0) (s .pre .1) (omega arith),
+      s .pre
+          .2,
+    )
 
 mul-t9 : tie.Need-mul-t9 Inv-loop μ-loop
 mul-t9 c = omega arith
@@ -109,7 +113,8 @@ loop-again c =
       simp length-set (loop .inv .1),
       rw two at
           (next-mapped (loop .a + 1) (step (args .e) (args .m)) (args .row .now) _ _ (omega arith) (first one)
-          (through (step (args .e) (args .m) (loop .a + 1)) (sfits-of (c .before .kept-arg2 .given)) (sfits-of (c .kept2 .ok))
+          (through (step (args .e) (args .m) (loop .a + 1)) (sfits-of (c .before .kept-arg2 .given))
+          (sfits-of (c .kept2 .ok))
           (c .kept2 .ensures))),
     )
 

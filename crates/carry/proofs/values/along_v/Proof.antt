@@ -30,7 +30,11 @@ loop-holds c =
 add-child : tie.Need-add-child Inv-loop μ-loop
 add-child c =
     let a = c .before .before .args in
-    omega (arith, reads-below (a .n) (a .b) (c .before .loop .c) 0 (c .loop-test .taken) (omega arith) (c .before .before .pre .1))
+    omega (
+      arith,
+      reads-below (a .n) (a .b) (c .before .loop .c) 0 (c .loop-test .taken) (omega arith)
+          (c .before .before .pre .1),
+    )
 
 child-requires : tie.Need-child-requires Inv-loop μ-loop
 child-requires c κs =

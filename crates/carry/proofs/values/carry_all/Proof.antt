@@ -49,7 +49,8 @@ fits c =
     let turn = first .before in
     let loop = turn .before .loop in
     let a = turn .before .before .before .before .before .args in (
-      rw (first .start .ensures .0, c .start2 .ensures .0) (start-le (a .w) (a .h) (loop .coarse) (loop .coarse + 2) (omega arith)),
+      rw (first .start .ensures .0, c .start2 .ensures .0)
+          (start-le (a .w) (a .h) (loop .coarse) (loop .coarse + 2) (omega arith)),
       two-fits (a .w) (a .h) (a .rows .now) (a .cs .now) (loop .coarse) (first .start .result) (c .start2 .result)
           (loop .out) (turn .loop-test .taken) (first .start .ensures .0) (c .start2 .ensures .0) (loop .inv .1),
     )

@@ -199,7 +199,8 @@ loop-again c =
     rw (columns .functions .ensures .0, front turn) at (along .along-v .ensures) in
     let new : row ≡ tableFrom 0 n (λ k. f k b) =
     called .carry-row .ensures
-    ∙ row-carried (a .w) (a .h) (a .coarse) n b (side .eighths .result) (a .rows .now) (marks .region-row .result) s own
+    ∙ row-carried (a .w) (a .h) (a .coarse) n b (side .eighths .result) (a .rows .now) (marks .region-row .result) s
+    own
     (along .along-v .result) (part (first + b * n) n (loop .two)) (wide .functions2 .ensures .0)
     (side .eighths .ensures) (marks .region-row .ensures) sums
     (part-length (first + b * n) n (loop .two) (fits turn))

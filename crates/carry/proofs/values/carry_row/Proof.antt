@@ -29,8 +29,12 @@ abbrev μ-loop : tie.MeasureT-loop
 
 loop-holds : tie.Need-loop-holds Inv-loop μ-loop
 loop-holds c =
-    let args = c .args in
-    (omega arith, refl, written-none (mapped (step (args .e) (args .inside) (args .sums .now)) (args .row .now)) (args .row .now))
+    let args = c .args in (
+      omega arith,
+      refl,
+      written-none (mapped (step (args .e) (args .inside) (args .sums .now)) (args .row .now))
+          (args .row .now),
+    )
 
 mul-carried : tie.Need-mul-carried Inv-loop μ-loop
 mul-carried c = omega arith
@@ -53,13 +57,16 @@ first : (c : tie.After-carried Inv-loop μ-loop)
     → let loop = c .before .before .before .loop in
     let args = c .before .before .before .before .args in
     set (loop .row) (loop .a) (toZ w64 (ofZ w64 (c .carried .result)))
-    ≡ written (loop .a + 1) (mapped (step (args .e) (args .inside) (args .sums .now)) (args .row .now)) (args .row .now)
+    ≡ written (loop .a + 1) (mapped (step (args .e) (args .inside) (args .sums .now)) (args .row .now))
+    (args .row .now)
 first c =
     let loop = c .before .before .before .loop in
     let args = c .before .before .before .before .args in
-    next-mapped (loop .a) (step (args .e) (args .inside) (args .sums .now)) (args .row .now) (loop .row) (toZ w64 (ofZ w64 (c .carried .result))) (omega arith)
+    next-mapped (loop .a) (step (args .e) (args .inside) (args .sums .now)) (args .row .now) (loop .row)
+    (toZ w64 (ofZ w64 (c .carried .result))) (omega arith)
     (loop .inv .2)
-    (through (step (args .e) (args .inside) (args .sums .now) (loop .a)) (sfits-of (c .before .carried-arg .given)) (sfits-of (c .carried .ok))
+    (through (step (args .e) (args .inside) (args .sums .now) (loop .a)) (sfits-of (c .before .carried-arg .given))
+    (sfits-of (c .carried .ok))
     (c .carried .ensures))
 
 mul-row : tie.Need-mul-row Inv-loop μ-loop
@@ -78,7 +85,8 @@ returns : tie.Need-returns Inv-loop μ-loop
 returns c =
     let loop = c .before .before .before .before .loop in
     let args = c .before .before .before .before .before .args in
-    all-mapped (loop .a + 1) (step (args .e) (args .inside) (args .sums .now)) (args .row .now) _ (c .if1 .taken) (first (c .before))
+    all-mapped (loop .a + 1) (step (args .e) (args .inside) (args .sums .now)) (args .row .now) _ (c .if1 .taken)
+    (first (c .before))
 
 mul-carried-2 : tie.Need-mul-carried-2 Inv-loop μ-loop
 mul-carried-2 c = omega arith
@@ -117,8 +125,10 @@ loop-again c =
       omega arith,
       simp length-set (loop .inv .1),
       rw two at
-          (next-mapped (loop .a + 1) (step (args .e) (args .inside) (args .sums .now)) (args .row .now) _ _ (omega arith) (first one)
-          (through (step (args .e) (args .inside) (args .sums .now) (loop .a + 1)) (sfits-of (c .before .carried-arg2 .given)) (sfits-of (c .carried2 .ok))
+          (next-mapped (loop .a + 1) (step (args .e) (args .inside) (args .sums .now)) (args .row .now) _ _
+          (omega arith) (first one)
+          (through (step (args .e) (args .inside) (args .sums .now) (loop .a + 1))
+          (sfits-of (c .before .carried-arg2 .given)) (sfits-of (c .carried2 .ok))
           (c .carried2 .ensures))),
     )
 
@@ -129,7 +139,8 @@ returns-2 : tie.Need-returns-2 Inv-loop μ-loop
 returns-2 c =
     let loop = c .before .loop in
     let args = c .before .before .args in
-    all-mapped (loop .a) (step (args .e) (args .inside) (args .sums .now)) (args .row .now) (loop .row) (omega arith) (loop .inv .2)
+    all-mapped (loop .a) (step (args .e) (args .inside) (args .sums .now)) (args .row .now) (loop .row) (omega arith)
+    (loop .inv .2)
 
 pub carry-row-spec : {M : Type 1} → statement M
 carry-row-spec =

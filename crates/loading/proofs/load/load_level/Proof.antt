@@ -118,7 +118,8 @@ counted c =
     let side = columns .before .eighths in
     let a = columns .before .before .before .before .args in
     row-count (a .w) (a .h) (a .level) (columns .functions .result) (c .before .before .loop .b)
-    (levelsOf (a .rows .now)) (side .result) (c .active-row .result) (columns .functions .ensures .0) (side .ensures) (c .active-row .ensures)
+    (levelsOf (a .rows .now)) (side .result) (c .active-row .result) (columns .functions .ensures .0) (side .ensures)
+    (c .active-row .ensures)
 
 load-row-requires : tie.Need-load-row-requires Inv-loop μ-loop
 load-row-requires c κs =

@@ -87,7 +87,8 @@ module _ (n : ℕ) where
       let t = c .before .before .before in
       let s = t .before .before in
       let a = s .args in
-      inserted-none (boxAt (a .corners .now)) (a .level) (negated (t .before .meets .ensures) (t .if1 .taken)) (s .pre .1 .6)
+      inserted-none (boxAt (a .corners .now)) (a .level) (negated (t .before .meets .ensures) (t .if1 .taken))
+      (s .pre .1 .6)
       (c .build-from .ensures)
 
   raise-quarter-requires : lts.Need-raise-quarter-requires (claims n) (given n) self.Post
@@ -265,7 +266,8 @@ module _ (n : ℕ) where
       let one = two .before .before .before in
       let d = one .before .before .before in
       let p = start d .pre .1 in
-      inserted-four (half d) (p .0) (p .1) (one .insert-from .ensures) (two .insert-from2 .ensures) (three .insert-from3 .ensures)
+      inserted-four (half d) (p .0) (p .1) (one .insert-from .ensures) (two .insert-from2 .ensures)
+      (three .insert-from3 .ensures)
       (four .insert-from4 .ensures) (c .join .ensures)
 
 pub +insert-from-spec : {M : Type 1} → statement M

@@ -109,7 +109,8 @@ loop-again-4 c =
     let d = tested .before .before in (
       omega arith,
       λ m e. below-more (d .before .before .loop .inv .1 m e) (sfits-of (d .c .given))
-          (unmarked (tested .is-marked .ensures) (c .before .before .if2 .left)) e (sub-if4 (c .before)) (c .if4 .taken),
+          (unmarked (tested .is-marked .ensures) (c .before .before .if2 .left)) e (sub-if4 (c .before))
+          (c .if4 .taken),
     )
 
 -- src/faults.rt:36:5
@@ -123,7 +124,8 @@ loop-again-5 c =
     let d = tested .before .before in (
       omega arith,
       λ m e. within-more (d .before .before .loop .inv .1 m e) (sfits-of (d .c .given))
-          (unmarked (tested .is-marked .ensures) (c .before .before .if2 .left)) e (sub-if4 (c .before)) (c .before .if3 .left)
+          (unmarked (tested .is-marked .ensures) (c .before .before .if2 .left)) e (sub-if4 (c .before))
+          (c .before .if3 .left)
           (c .if4 .left),
     )
 
