@@ -89,8 +89,8 @@ fn padded(word: u32, w: usize) -> u64
     (word as u64 * 65536) | (18446744073709551615 ^ (sheet * 65536))
 }
 
-// Bit k of the result is set where the 2 e bits from k on are, e the eighths of a level's cell: runs of 2 bits, and a
-// run of twice as many for each level above level 3.
+// Bit k of the result is set where the 2 e bits from k on are, e the eighths of a level's cell: runs of 2 bits at level
+// 3, and of twice as many for each coarser level.
 fn runs(word: u64, level: usize) -> u64
     requires { ⌜ level ≤ 3 ⌝ }
     ensures { λ r. ⌜ Runs word (2 * Sheet.eighths level) r ⌝ }

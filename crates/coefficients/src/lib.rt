@@ -1,4 +1,4 @@
-// The places of a level and where its part of the coefficients' slice starts.
+// Sides, the places of a level, where its part of the coefficients' slice starts, and its limit.
 pub mod fill;
 
 ghost use mathlib.Core.Path.{_≡_};
@@ -8,13 +8,14 @@ ghost use Rattle.surface.specs.Sheet as Sheet;
 ghost use Rattle.surface.specs.Table as Table;
 ghost use lib.IntN.{pos};
 
+// A side of a sheet is 1 to 8 cells.
 pub fn good_side(n: usize) -> bool
     ensures { λ r. ⌜ r ≡ Sheet.goodSide n ⌝ }
 {
     if 1 <= n { n <= 8 } else { false }
 }
 
-// The sides of a sheet are 1 to 8 cells each.
+// Both sides of a sheet are.
 pub fn good_sides(w: usize, h: usize) -> bool
     ensures { λ r. ⌜ r ≡ (Sheet.goodSide w && Sheet.goodSide h) ⌝ }
 {

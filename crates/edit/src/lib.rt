@@ -7,24 +7,13 @@ ghost use lib.Dec.{ltb};
 ghost use lib.IntN.{pos, natAbs};
 ghost use lib.ListN as ListN;
 ghost use lib.ListN.{length, replicate};
-ghost use Rattle.surface.specs.Sheet.{goodSide, functions};
+ghost use Rattle.surface.specs.Sheet.{functions};
 ghost use Rattle.surface.specs.Support.{active};
 ghost use Rattle.surface.specs.Table.{limit};
 ghost use Rattle.surface.specs.Calls.{freshCause, freshOutcome, indexFits, setCause, setOutcome};
 ghost use Rattle.surface.specs.Calls as Calls;
 ghost use Rattle.rows.specs.Rows.{levelsOf, Nested};
 ghost use Rattle.answers.specs.Answers.{lengthAnswer, outcomeAnswer};
-
-// Whether both sides are 1 to 8.
-fn good_sides(w: usize, h: usize) -> bool
-    ensures { λ r. ⌜ r ≡ (goodSide w && goodSide h) ⌝ }
-{
-    if table::cause::good_side(w) {
-        table::cause::good_side(h)
-    } else {
-        false
-    }
-}
 
 // Whether a number is past its level's limit, above or below.
 fn past(number: i64, level: usize) -> bool
@@ -42,7 +31,7 @@ fn past(number: i64, level: usize) -> bool
 fn fresh_cause(w: usize, h: usize, number: i64, tree: &[u8], numbers: &[i64]) -> u8
     ensures { λ r. ⌜ r ≡ freshCause w h number (now (tree .entry)) (now (numbers .entry)) ⌝ }
 {
-    if good_sides(w, h) {
+    if coefficients::good_sides(w, h) {
         if past(number, 0) {
             return 10;
         }

@@ -1,1 +1,1 @@
-// Finite sums, minima and tables, and the laws of the integers: definitions and proofs only, no code.
+// Finite sums, minima, tables and binary digits, and the laws of the integers: definitions and proofs only, no code.

@@ -1,6 +1,6 @@
 // The calls for other languages: plain numbers and slices in, the refusal number back, 0 where there is none. A slice
 // passes as a pointer and a length. What a call gives beside is written through its last parameters, and nothing is
-// written where it refuses. Buffers that are lent to one call must not overlap.
+// written where it refuses. What a call writes must not overlap anything else that it is lent.
 ghost use mathlib.Core.Path.{_≡_};
 ghost use Rattle.surface.specs.Table.{tableCause};
 ghost use Rattle.surface.specs.Calls.{leastOutcome, activityOutcome, freshOutcome, setOutcome};

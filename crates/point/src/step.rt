@@ -1,4 +1,4 @@
-// The patch of a level at a point: that of level 0, and that of a level from the one above it.
+// The patch of a level at a point: that of level 0, and that of a level from the level before it.
 ghost use mathlib.Core.Path.{_≡_};
 ghost use mathlib.Core.Bool.{cond};
 ghost use mathlib.Core.List.{List};

@@ -153,12 +153,3 @@ pub fn regions(t: &[u8], w: usize, h: usize, rows: &mut [u32; 96]) -> bool
     };
     p == t.len()
 }
-
-// The tree is of the form, on a sheet of w by h cells.
-pub fn well_formed(t: &[u8], w: usize, h: usize) -> bool
-    requires { ⌜ (w ≤ 8) × (h ≤ 8) ⌝ }
-    ensures { λ r. ⌜ r ≡ formed w h (treeOf (now (t .entry))) ⌝ }
-{
-    let mut rows = [0u32; 96];
-    regions(t, w, h, &mut rows)
-}

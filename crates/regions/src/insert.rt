@@ -1,6 +1,6 @@
 // The insertion of a box into the regions, by recursion into four children with the box in hand, and the one tree of
-// the new regions, written parent first; four equal leaves are merged on the way back. The recursion ends early where
-// the rows of bits show that a square has one level.
+// the new regions, written parent first; four equal leaves are merged on the way back. The recursion ends early at a
+// square away from the box whose quarters all have level 0, and at one in the box with no quarter above the level.
 ghost use mathlib.Core.Path.{_≡_};
 ghost use mathlib.Core.Bool.{true};
 ghost use Prim.Native.Nat.{ℕ, _+_, _*_, _^_, _≤_, _<_};
@@ -58,7 +58,7 @@ fn build_from(
         out[at] = rows::level_at(rows, x, y);
         return at + 1;
     }
-    // The region of level 1 holds those of the finer levels, so that every quarter of the square has level 0.
+    // A square with no quarter in the region of level 1 has none in a finer one: all have level 0.
     if rows::none_in(rows, 0, x, y, side) {
         out[at] = 0;
         return at + 1;

@@ -1,25 +1,18 @@
 // The lowest number among causes 1 to 5 that applies to a table, or 0.
 ghost use mathlib.Core.Path.{_≡_};
 ghost use Prim.Native.Nat.{_≤_};
-ghost use Rattle.surface.specs.Sheet.{goodSide};
 ghost use Rattle.surface.specs.Table.{regionCause, tableCause};
 ghost use Rattle.surface.specs.Calls.{boxCause};
 ghost use Rattle.quadtree.specs.Visit.{boxOf};
 ghost use Rattle.rows.specs.Rows.{levelRows};
-
-pub fn good_side(n: usize) -> bool
-    ensures { λ r. ⌜ r ≡ goodSide n ⌝ }
-{
-    if 1 <= n { n <= 8 } else { false }
-}
 
 // Causes 1 and 2: the sides and the tree, with its regions where none applies.
 pub fn region_cause(w: usize, h: usize, t: &[u8], rows: &mut [u32; 96]) -> u8
     ensures { λ r. ⌜ (r ≡ regionCause w h (now (t .entry)))
         × (r ≡ 0 → now (rows .exit) ≡ levelRows (now (t .entry))) ⌝ }
 {
-    if good_side(w) {
-        if good_side(h) {
+    if coefficients::good_side(w) {
+        if coefficients::good_side(h) {
             if quadtree::walk::regions(t, w, h, rows) {
                 return 0;
             }

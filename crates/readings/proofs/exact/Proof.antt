@@ -52,8 +52,8 @@ reading-at-requires : tie.Need-reading-at-requires
 reading-at-requires c κs =
     let d = c .before .before .before in
     let a = d .before .before .before .before .args in
-    let map = d .before .check .ensures .1 (d .if1 .left) in
-    (c .before .before .if2 .left, c .before .if3 .left, (a .tree .now, map, sym (none d)))
+    let rows = d .before .check .ensures .1 (d .if1 .left) in
+    (c .before .before .if2 .left, c .before .if3 .left, (a .tree .now, rows, sym (none d)))
 
 returns-4 : tie.Need-returns-4
 returns-4 c =
