@@ -1,4 +1,4 @@
-"""The compiled library through its C boundary. All that is lent to a call, scalars too, lies between guard bytes."""
+"""The compiled library through its C calls. All that is lent to a call, scalars too, lies between guard bytes."""
 from __future__ import annotations
 
 import ctypes
