@@ -1,6 +1,6 @@
 """Holds the compiled library to the unrelated evaluator: every answer and every element of all that is lent.
 
-Run as: python3 tests/differential/run.py [CALLS [SEED]] [--counts], or with --case NUMBER [--seed SEED]
+Run as: python3 tests/differential/run.py [CALLS [SEED]] [--from NUMBER] [--counts], or with --case NUMBER [--seed SEED]
 """
 from __future__ import annotations
 
@@ -61,7 +61,7 @@ def one_sided(counts: Dict[str, List[int]]) -> List[str]:
 def generated(lib: Library, words: str, command: str, asked: Namespace, begun: Begun) -> Tuple[int, int]:
     """Makes generated cases until so many calls are held to the evaluator, and returns the calls and the faults."""
     made, faults, told = 0, 0, 0
-    for k in count():
+    for k in count(asked.first):
         if made >= asked.calls:
             break
         begun(k)
@@ -101,13 +101,14 @@ def work(lib: Library, words: str, command: str, asked: Namespace, grids: bool, 
         faults = len(found)
     else:
         begun(FIXED)
-        wrong = fixed.faults(lib, asked.seed, grids)
+        wrong = fixed.faults(lib, asked.seed, grids) if asked.first == 0 else []
         for fault in wrong:
             print(f"fixed case: {fault[:2000]}\nalone: {alone(command, asked, FIXED)}", flush=True)
         lib.counts.clear()
         calls, faults = generated(lib, words, command, asked, begun)
         faults += len(wrong)
-        print(f"{words}: the fixed cases and {calls} generated calls of seed {asked.seed}, {faults} faults")
+        cases = "the fixed cases and" if asked.first == 0 else f"from case {asked.first} on"
+        print(f"{words}: {cases} {calls} generated calls of seed {asked.seed}, {faults} faults")
     if asked.counts:
         for kind, (accepted, refused) in lib.counts.items():
             print(f"{kind}: {accepted} accepted, {refused} refused")
@@ -153,6 +154,8 @@ def asked_for(script: str, seed: int = SEED) -> Namespace:
     parser.add_argument("calls", nargs="?", type=int, metavar="CALLS", help=f"generated calls, or {TOTAL}")
     parser.add_argument("drawn_from", nargs="?", type=int, metavar="SEED", help=f"seed of all cases, or {seed}")
     parser.add_argument("--seed", type=int, help="the same as SEED")
+    parser.add_argument("--from", type=int, default=0, dest="first", metavar="NUMBER",
+                        help="begin with this generated case, and leave the fixed cases to the run that begins with 0")
     parser.add_argument("--case", type=int, metavar="NUMBER", help="make this generated case alone")
     parser.add_argument("--counts", action="store_true", help="print how many calls were accepted and refused")
     asked = parser.parse_intermixed_args()
@@ -160,7 +163,7 @@ def asked_for(script: str, seed: int = SEED) -> Namespace:
         parser.error("a case is made alone: name it without CALLS")
     if asked.seed is not None and asked.drawn_from is not None:
         parser.error("the seed is given twice")
-    if min(asked.calls or 0, asked.case or 0) < 0:
+    if min(asked.calls or 0, asked.case or 0, asked.first) < 0:
         parser.error("calls and cases are counted from 0")
     asked.calls = TOTAL if asked.calls is None else asked.calls
     asked.seed = next((one for one in (asked.seed, asked.drawn_from) if one is not None), seed)

@@ -1,7 +1,7 @@
 -- Laws of words of bits: words taken together, runs of bits, and the places beside the sheet.
 use mathlib.Core.Path.{_≡_, refl, sym, ap, ap₂, _∙_}
-use mathlib.Core.Bool.{Bool, true, false, cond, _||_}
-use mathlib.Core.List.{List, [], _∷_}
+use mathlib.Core.Bool.{Bool, true, cond, _||_}
+use mathlib.Core.List.{List}
 use mathlib.Core.Logic.{_↔_}
 use Prim.Native.Nat.{ℕ, zero, suc, _+_, _-_, _*_, _/_, _^_, _≤_, _<_, min, max}
 use native.Mathlib.Nat.{add-zero, le-trans}
@@ -13,10 +13,10 @@ use lib.ListN.{getD}
 use borrow.Author.Tests.{eqb-true, lt-ltb, le-ltb, le-leb, lt-leb}
 use Rattle.finite.specs.Bits.{bit}
 use Rattle.finite.specs.Range.{least, every}
-use Rattle.finite.proofs.Bits.{bit-small, bit-and, bit-or, bit-xor, bit-shr, bit-shl, bit-shl-low}
+use Rattle.finite.proofs.Bits.{bit-small, bit-and, bit-or, bit-xor, bit-shr, bit-shl}
 use Rattle.finite.proofs.Tests.{every-true}
+use Rattle.finite.proofs.Minima.{least-le-top, least-le, le-least}
 use Rattle.surface.specs.Sheet.{quarters}
-use Rattle.surface.proofs.Least.{least-le-top, least-le, le-least}
 use Rattle.activity.specs.Marks.{Common, paddedBit, PaddedTo, Runs, Without}
 
 -- ---- minima of bits

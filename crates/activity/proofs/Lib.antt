@@ -1,8 +1,7 @@
 pub mod ActiveLaws
 pub mod BitLaws
 pub mod CountLaws
-pub mod MarkLaws
 pub mod NearLaws
-pub mod PairLaws
 pub mod RegionLaws
+pub mod StepLaws
 pub mod WindowLaws

@@ -1,5 +1,5 @@
 -- The sixteen functions of a patch: four columns of marks, from the marks of four rows.
-use mathlib.Core.Path.{_≡_, sym, ap, _∙_}
+use mathlib.Core.Path.{_≡_, ap, _∙_}
 use mathlib.Core.Bool.{Bool, false}
 use mathlib.Core.List.{List, [], _∷_}
 use Prim.Native.Nat.{ℕ, _+_, _<_}
@@ -16,15 +16,10 @@ use Rattle.activity.specs.declared.Marks.{Marks}
 
 -- the marks of the rows b to b + 3, for the region of their own level
 pub record FourRows (W H L b : ℕ) (lev : ℕ → ℕ → ℕ) (m0 m1 m2 m3 : Marks) : Type 0 where
-  row0 : RegionRow W H L b L lev m0
-  row1 : RegionRow W H L (b + 1) L lev m1
-  row2 : RegionRow W H L (b + 2) L lev m2
-  row3 : RegionRow W H L (b + 3) L lev m3
-
-pub four-rows : (W H L b : ℕ) (lev : ℕ → ℕ → ℕ) (m0 m1 m2 m3 : Marks) → RegionRow W H L b L lev m0
-    → RegionRow W H L (b + 1) L lev m1 → RegionRow W H L (b + 2) L lev m2 → RegionRow W H L (b + 3) L lev m3
-    → FourRows W H L b lev m0 m1 m2 m3
-four-rows W H L b lev m0 m1 m2 m3 r0 r1 r2 r3 = record { row0 = r0; row1 = r1; row2 = r2; row3 = r3 }
+  pub row0 : RegionRow W H L b L lev m0
+  pub row1 : RegionRow W H L (b + 1) L lev m1
+  pub row2 : RegionRow W H L (b + 2) L lev m2
+  pub row3 : RegionRow W H L (b + 3) L lev m3
 
 module _ (W H L a b : ℕ) (lev : ℕ → ℕ → ℕ) (e : ℕ) (m0 m1 m2 m3 : Marks) where
   abbrev Entry : ℕ → List Bool → ℕ → Type 0

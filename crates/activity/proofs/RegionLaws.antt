@@ -1,30 +1,51 @@
 -- Which functions of a row have their cut support in a region: from the words of the rows under it to the marks.
 use mathlib.Core.Path.{_≡_, refl, sym, ap, _∙_, subst}
-use mathlib.Core.Bool.{Bool, true, false, cond, _&&_, _||_}
+use mathlib.Core.Bool.{Bool, true, _&&_}
 use mathlib.Core.List.{List}
 use mathlib.Core.Logic.{_↔_}
 use Prim.Native.Nat.{ℕ, zero, suc, _+_, _-_, _*_, _/_, _%_, _^_, _≤_, _<_, min}
-use native.Mathlib.Nat.{le-trans, mul-one, mul-zero, add-zero, add-assoc, add-comm, mod-lt, zero-lt-suc}
+use native.Mathlib.Nat.{le-trans, mul-one, mul-zero, mul-assoc, suc-mul, add-zero, add-assoc, add-comm, mod-lt}
+use native.Mathlib.Nat.{zero-lt-suc}
 use native.Mathlib.Decide.{decLt}
 use native.Mathlib.Omega.{arith}
 use lib.Bits.{bitAnd}
-use lib.Dec.{leb, ltb, eqb}
+use lib.Dec.{leb}
 use lib.ListN.{getD}
 use borrow.Author.Tests.{eq-eqb, ne-eqb, leb-true, le-leb, lt-ltb, le-ltb, lt-leb}
 use Rattle.finite.specs.Bits.{bit}
-use Rattle.finite.specs.Range.{least}
 use Rattle.finite.proofs.Bits.{bit-small, bit-and, bit-shr}
-use Rattle.finite.proofs.Tests.{same-test}
+use Rattle.finite.proofs.Tests.{same-test, both, and-intro}
 use Rattle.surface.specs.Sheet.{eighths, functions, quarters}
 use Rattle.surface.specs.Support.{lowEnd, highEnd, shares, leastWhere, leastUnder}
-use Rattle.surface.proofs.Least.{both, and-intro, leastWhere-le, le-leastWhere}
+use Rattle.surface.proofs.Least.{leastWhere-le, le-leastWhere}
 use Rattle.rows.specs.Rows.{inRows, levelsOf, Nested}
-use Rattle.activity.specs.Marks.{Common, paddedBit, PaddedTo, Runs, markPlace, marked, RegionRow}
+use Rattle.activity.specs.Marks.{Common, paddedBit, PaddedTo, Runs, markAt, marked, placed, RegionRow}
 use Rattle.activity.specs.declared.Marks.{Marks}
 use Rattle.activity.proofs.BitLaws.{all-ones}
-use Rattle.activity.proofs.WindowLaws.{shares-window, window-fits}
+use Rattle.activity.proofs.WindowLaws.{eighths-le, shares-window, window-fits}
 
 -- ---- along u: the places of the runs
+
+-- where the support of function a starts, if a cell's side is e eighths: its quarter, with 16 places before the sheet
+abbrev pub markPlace : ℕ → ℕ → ℕ
+markPlace e a = (32 + a * e - 3 * e) / 2
+
+abbrev pub words : ℕ → ℕ → Marks
+words even odd = record { even = even; odd = odd }
+
+module _ (e even odd a : ℕ) (small : e ≤ 8) where
+  pub even-place : a % 2 ≡ 0 → markAt e (placed e (words even odd)) a ≡ bit even (markPlace e a)
+  even-place h =
+      let index : a ≡ 2 * (a / 2) = omega arith in
+      let twice : a * e ≡ 2 * (a / 2 * e) = ap (λ n. n * e) index ∙ mul-assoc 2 (a / 2) e in
+      rw (eq-eqb (a % 2) 0 h) (bit-shr even ((32 - 3 * e) / 2) (a / 2 * e) ∙ ap (bit even) (omega arith))
+
+  pub odd-place : a % 2 ≡ 1 → markAt e (placed e (words even odd)) a ≡ bit odd (markPlace e a)
+  odd-place h =
+      let index : a ≡ suc (2 * (a / 2)) = omega arith in
+      let twice : a * e ≡ 2 * (a / 2 * e) + e =
+      ap (λ n. n * e) index ∙ suc-mul (2 * (a / 2)) e ∙ ap (λ n. n + e) (mul-assoc 2 (a / 2) e) in
+      rw (ne-eqb (a % 2) 0 (λ z. omega arith)) (bit-shr odd (16 - e) (a / 2 * e) ∙ ap (bit odd) (omega arith))
 
 -- how many quarters the support of function a covers before it is cut: one more where level 3 edges halve two
 abbrev pub width : ℕ → ℕ → ℕ
@@ -63,15 +84,15 @@ MarkRun L word m =
     ↔ ((j : ℕ) → j < width L a → 1 ≤ bit word (markPlace (eighths L) a + j))
 
 -- from the runs of 2 e bits, e the side of a cell in eighths: an even function of level 3 takes two of them
-pub mark-run : (L word : ℕ) (m : Marks) → Runs word (2 * eighths L) (m .odd)
-    → ((k : ℕ) → bit (m .even) k ≡ min (bit (m .odd) k) (bit (m .odd) (k + eighths L % 2)))
-    → MarkRun L word m
-mark-run L word m runs pairs a = go (a % 2) refl
+mark-run : (L word even odd : ℕ) → Runs word (2 * eighths L) odd
+    → ((k : ℕ) → bit even k ≡ min (bit odd k) (bit odd (k + eighths L % 2)))
+    → MarkRun L word (placed (eighths L) (words even odd))
+mark-run L word even odd runs pairs a = go (a % 2) refl
   where
     place : ℕ
     place = markPlace (eighths L) a
 
-    run : (k : ℕ) → (1 ≤ bit (m .odd) k) ↔ ((j : ℕ) → j < 2 * eighths L → 1 ≤ bit word (k + j))
+    run : (k : ℕ) → (1 ≤ bit odd k) ↔ ((j : ℕ) → j < 2 * eighths L → 1 ≤ bit word (k + j))
     run k = rw (runs k) (all-ones (2 * eighths L) (λ j. bit word (k + j)))
 
     -- a bit of the first run, or else of the second
@@ -87,19 +108,20 @@ mark-run L word m runs pairs a = go (a % 2) refl
         subst (λ i. 1 ≤ bit word i) k (last (j - e % 2) (omega arith))
 
     go : (d : ℕ) → a % 2 ≡ d
-        → (marked (eighths L) m a ≡ true) ↔ ((j : ℕ) → j < width L a → 1 ≤ bit word (place + j))
+        → (marked (eighths L) (placed (eighths L) (words even odd)) a ≡ true)
+        ↔ ((j : ℕ) → j < width L a → 1 ≤ bit word (place + j))
     go zero p =
         let e = eighths L in
         let one : 1 - a % 2 ≡ 1 = omega arith in
         let size : width L a ≡ 2 * e + e % 2 = rw one (ap (λ n. 2 * e + n) (mul-one (e % 2))) in
         let half : e % 2 < 2 = mod-lt e (zero-lt-suc 1) in
-        rw (eq-eqb (a % 2) 0 p, size) (
+        rw (even-place e even odd a (eighths-le L) p, size) (
           λ t j hj.
-              let h = leb-true 1 (bit (m .even) place) t in
-              let first : 1 ≤ bit (m .odd) place = omega (arith, pairs place) in
-              let last : 1 ≤ bit (m .odd) (place + e % 2) = omega (arith, pairs place) in
+              let h = leb-true 1 (bit even place) t in
+              let first : 1 ≤ bit odd place = omega (arith, pairs place) in
+              let last : 1 ≤ bit odd (place + e % 2) = omega (arith, pairs place) in
               inside j hj (run place .0 first) (run (place + e % 2) .0 last) (decLt j (2 * e)),
-          λ h. le-leb 1 (bit (m .even) place)
+          λ h. le-leb 1 (bit even place)
               (rw (pairs place)
               (omega (
                 arith,
@@ -113,9 +135,10 @@ mark-run L word m runs pairs a = go (a % 2) refl
         let e = eighths L in
         let none : 1 - a % 2 ≡ 0 = omega arith in
         let size : width L a ≡ 2 * e = rw none (ap (λ n. 2 * e + n) (mul-zero (e % 2)) ∙ add-zero (2 * e)) in
-        rw (ne-eqb (a % 2) 0 (λ z. omega arith), size) (
-          λ t. run place .0 (leb-true 1 (bit (m .odd) place) t),
-          λ h. le-leb 1 (bit (m .odd) place) (run place .1 h),
+        let left : a % 2 ≡ 1 = omega (arith, mod-lt a (zero-lt-suc 1)) in
+        rw (odd-place e even odd a (eighths-le L) left, size) (
+          λ t. run place .0 (leb-true 1 (bit odd place) t),
+          λ h. le-leb 1 (bit odd place) (run place .1 h),
         )
 
 -- a mark's run ends within the word
@@ -252,24 +275,23 @@ region-row W H L b (suc l) rows low high word padded m n hW hH hL one three el e
     region-marks W H L b l rows word padded m n hW hH hL (omega arith) (rw (first, el, eh) at common) pad run
 
 -- at level 3 an even function takes two runs, above it one
-pub fine-run : (L word odd : ℕ) → L ≡ 3 → Runs word (2 * eighths L) odd
-    → MarkRun L word (record { even = bitAnd odd (odd / 2 ^ 1); odd = odd })
-unfolding eighths
-fine-run L word odd fine runs =
-    let rest : eighths L % 2 ≡ 1 = ap (λ l. eighths l % 2) fine in
-    mark-run L word _ runs λ k.
-    rw rest
-    (bit-and odd (odd / 2 ^ 1) k ∙ ap (min (bit odd k)) (bit-shr odd 1 k ∙ ap (bit odd) (add-comm 1 k)))
+module _ (L word odd : ℕ) (runs : Runs word (2 * eighths L) odd) where
+  pub fine-run : L ≡ 3 → MarkRun L word (placed (eighths L) (words (bitAnd odd (odd / 2 ^ 1)) odd))
+  unfolding eighths
+  fine-run fine =
+      let rest : eighths L % 2 ≡ 1 = ap (λ l. eighths l % 2) fine in
+      mark-run L word (bitAnd odd (odd / 2 ^ 1)) odd runs λ k.
+      rw rest
+      (bit-and odd (odd / 2 ^ 1) k ∙ ap (min (bit odd k)) (bit-shr odd 1 k ∙ ap (bit odd) (add-comm 1 k)))
 
-pub coarse-run : (L word odd : ℕ) → L ≤ 3 → (L ≡ 3 → ⊥) → Runs word (2 * eighths L) odd
-    → MarkRun L word (record { even = odd; odd = odd })
-unfolding eighths
-coarse-run L word odd hL coarse runs =
-    mark-run L word _ runs λ k. rw (even-side L hL coarse, add-zero k) (omega arith)
-  where
-    even-side : (L : ℕ) → L ≤ 3 → (L ≡ 3 → ⊥) → eighths L % 2 ≡ 0
-    even-side zero h n = refl
-    even-side (suc zero) h n = refl
-    even-side (suc (suc zero)) h n = refl
-    even-side (suc (suc (suc zero))) h n = absurd (n refl)
-    even-side (suc (suc (suc (suc L)))) h n = absurd (omega arith)
+  pub coarse-run : L ≤ 3 → (L ≡ 3 → ⊥) → MarkRun L word (placed (eighths L) (words odd odd))
+  unfolding eighths
+  coarse-run hL coarse =
+      mark-run L word odd odd runs λ k. rw (even-side L hL coarse, add-zero k) (omega arith)
+    where
+      even-side : (L : ℕ) → L ≤ 3 → (L ≡ 3 → ⊥) → eighths L % 2 ≡ 0
+      even-side zero h n = refl
+      even-side (suc zero) h n = refl
+      even-side (suc (suc zero)) h n = refl
+      even-side (suc (suc (suc zero))) h n = absurd (n refl)
+      even-side (suc (suc (suc (suc L)))) h n = absurd (omega arith)

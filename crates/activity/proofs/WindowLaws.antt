@@ -6,9 +6,11 @@ use Prim.Native.Nat.{ℕ, zero, suc, _+_, _-_, _*_, _/_, _^_, _≤_, _<_}
 use native.Mathlib.Nat.{mul-le-mul}
 use native.Mathlib.Omega.{arith}
 use lib.Pow.{pow-mono, pow-pos}
+use Rattle.finite.proofs.Tests.{lts-true, lts-intro}
 use Rattle.surface.specs.Sheet.{eighths, functions, quarters}
 use Rattle.surface.specs.Support.{lowEnd, highEnd, shares}
-use Rattle.surface.proofs.Least.{lts-true, lts-intro}
+use Rattle.activity.specs.Over.{Over}
+use Rattle.activity.specs.declared.Window.{Window}
 
 -- ---- sizes
 
@@ -50,9 +52,6 @@ shares-window n L a q = (
 pub window-fits : (n L a : ℕ) → (highEnd n L a + 1) / 2 ≤ quarters n
 window-fits n L a = omega arith
 
-pub low-fits : (L a : ℕ) → a < 67 → lowEnd L a / 2 ≤ 264
-low-fits L a h = omega (arith, place-le a (eighths L) h (eighths-le L))
-
 pub window-order : (n L a : ℕ) → L ≤ 3 → a < functions n L → lowEnd L a / 2 ≤ (highEnd n L a + 1) / 2
 unfolding eighths
 window-order n zero a hL ha = omega arith
@@ -60,3 +59,14 @@ window-order n (suc zero) a hL ha = omega arith
 window-order n (suc (suc zero)) a hL ha = omega arith
 window-order n (suc (suc (suc zero))) a hL ha = omega arith
 window-order n (suc (suc (suc (suc L)))) a hL ha = absurd (omega arith)
+
+-- what a row's window is asked for, and where it ends
+pub window-asks : (n L b : ℕ) → n ≤ 8 → L ≤ 3 → b < functions n L → (n ≤ 8) × (L ≤ 3) × (b < 67)
+window-asks n L b hn hL hb = (hn, hL, omega (arith, functions-le n L hn hL))
+
+pub window-ends : (n L b : ℕ) {w : Window} → n ≤ 8 → L ≤ 3 → b < functions n L → Over n L b w
+    → (w .low ≤ w .high) × (w .high ≤ 32)
+window-ends n L b hn hL hb over = (
+  omega (arith, over .0, over .1, window-order n L b hL hb),
+  omega (arith, over .1, window-fits n L b),
+)

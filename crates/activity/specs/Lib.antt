@@ -1,3 +1,4 @@
 pub mod Marks
 pub mod Mark
 pub mod Near
+pub mod Over

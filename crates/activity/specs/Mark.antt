@@ -6,14 +6,10 @@ use Rattle.finite.specs.Range.{tableFrom, grid}
 use Rattle.surface.specs.Sheet.{functions}
 use Rattle.surface.specs.Support.{active}
 use Rattle.rows.specs.Rows.{levelsOf}
-use Rattle.activity.specs.Marks.{marked}
+use Rattle.activity.specs.Marks.{markAt}
 use Rattle.activity.specs.declared.Marks.{Marks}
 
--- 1 if function a is marked, else 0
-abbrev pub markAt : ℕ → Marks → ℕ → ℕ
-markAt e m a = cond (marked e m a) 1 0
-
--- those of n functions
+-- the marks of n functions
 abbrev pub rowMarks : ℕ → Marks → ℕ → List ℕ
 rowMarks e m n = tableFrom 0 n (markAt e m)
 

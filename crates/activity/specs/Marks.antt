@@ -2,7 +2,7 @@
 use mathlib.Core.Bool.{Bool, cond, _||_}
 use mathlib.Core.List.{List}
 use mathlib.Core.Path.{_≡_}
-use Prim.Native.Nat.{ℕ, _+_, _-_, _*_, _/_, _%_, _≤_, _<_}
+use Prim.Native.Nat.{ℕ, _+_, _-_, _*_, _/_, _%_, _^_, _<_}
 use lib.Dec.{leb, ltb, eqb}
 use lib.ListN.{getD}
 use Rattle.finite.specs.Bits.{bit}
@@ -28,14 +28,22 @@ PaddedTo W word r = (k : ℕ) → k < 64 → bit r k ≡ paddedBit W word k
 abbrev pub Runs : ℕ → ℕ → ℕ → Type 0
 Runs word n r = (k : ℕ) → bit r k ≡ least 1 n (λ j. bit word (k + j))
 
--- where the mark of function a stands, if a cell's side is e eighths: the quarter in which its support starts, with
--- 16 places before the sheet
-abbrev pub markPlace : ℕ → ℕ → ℕ
-markPlace e a = (32 + a * e - 3 * e) / 2
+-- the mark of function a, 1 or 0: those with even and with odd index have a word each, in which marks stand e places
+-- apart, if a cell's side is e eighths
+abbrev pub markAt : ℕ → Marks → ℕ → ℕ
+markAt e m a = bit (cond (eqb (a % 2) 0) (m .even) (m .odd)) (a / 2 * e)
 
--- function a is marked: even and odd functions have a word each
 abbrev pub marked : ℕ → Marks → ℕ → Bool
-marked e m a = leb 1 (bit (cond (eqb (a % 2) 0) (m .even) (m .odd)) (markPlace e a))
+marked e m a = leb 1 (markAt e m a)
+
+-- marks whose words begin 16 places before the sheet, from the places of functions 0 and 1 on: their supports start 3
+-- and 2 cells before it
+abbrev pub placed : ℕ → Marks → Marks
+placed e m = record { even = m .even / 2 ^ ((32 - 3 * e) / 2); odd = m .odd / 2 ^ (16 - e) }
+
+-- the marks of a row from function a on
+abbrev pub From : ℕ → ℕ → Marks → Marks → Type 0
+From e a m r = (k : ℕ) → markAt e r k ≡ markAt e m (a + k)
 
 -- of row b of level L those functions are marked whose cut support lies in the region of level M
 abbrev pub RegionRow : ℕ → ℕ → ℕ → ℕ → ℕ → (ℕ → ℕ → ℕ) → Marks → Type 0

@@ -5,24 +5,20 @@ pub mod mark;
 pub mod near;
 
 ghost use mathlib.Core.Path.{_≡_};
-ghost use Prim.Native.Nat.{ℕ, _+_, _*_, _/_, _≤_, _<_};
+ghost use Prim.Native.Nat.{ℕ, _+_, _*_, _≤_, _<_};
 ghost use Rattle.surface.specs.Sheet.{functions};
 ghost use Rattle.surface.specs.Sheet as Sheet;
-ghost use Rattle.surface.specs.Support.{lowEnd, highEnd};
 ghost use Rattle.rows.specs.Rows.{levelsOf, Nested};
-ghost use Rattle.activity.specs.Marks.{Common, PaddedTo, Runs, marked, RegionRow, ActiveRow, Without};
+ghost use Rattle.activity.specs.Marks.{Common, PaddedTo, Runs, From, marked, placed};
+ghost use Rattle.activity.specs.Marks.{RegionRow, ActiveRow, Without};
+ghost use Rattle.activity.specs.Over.{Over};
 
 // The side of a level's cells in eighths of a level 0 cell.
 pub fn eighths(level: usize) -> usize
     requires { ⌜ level ≤ 3 ⌝ }
     ensures { λ r. ⌜ r ≡ Sheet.eighths level ⌝ }
 {
-    match level {
-        0 => 8,
-        1 => 4,
-        2 => 2,
-        _ => 1,
-    }
+    8 >> level
 }
 
 // The quarters under a cut support along one side, from low to before high.
@@ -34,7 +30,7 @@ pub struct Window {
 // The window of the function with index a of a level, along a side of n cells.
 pub fn window_of(n: usize, level: usize, a: usize) -> Window
     requires { ⌜ (n ≤ 8) × (level ≤ 3) × (a < 67) ⌝ }
-    ensures { λ r. ⌜ (r .low ≡ lowEnd level a / 2) × (r .high ≡ (highEnd n level a + 1) / 2) ⌝ }
+    ensures { λ r. ⌜ Over n level a r ⌝ }
 {
     let e = eighths(level);
     let at = a * e;
@@ -49,10 +45,22 @@ pub fn window_of(n: usize, level: usize, a: usize) -> Window
     }
 }
 
-// Marks of the functions of one row of a level, those with even and with odd index in a word each.
+// Marks of the functions of one row of a level, from one function on: this one, every other after it, and those
+// between, in a word each. Marks in a word stand as many places apart as a cell's side has eighths.
 pub struct Marks {
     pub even: u64,
     pub odd: u64,
+}
+
+// The marks from the next function on, where a cell's side is e eighths.
+pub fn next(m: Marks, e: usize) -> Marks
+    requires { ⌜ e ≤ 8 ⌝ }
+    ensures { λ r. ⌜ From e 1 m r ⌝ }
+{
+    Marks {
+        even: m.odd,
+        odd: m.even >> e,
+    }
 }
 
 // Whether function a is marked, where a cell's side is e eighths.
@@ -61,8 +69,7 @@ pub fn is_marked(m: Marks, a: usize, e: usize) -> bool
     ensures { λ r. ⌜ r ≡ marked e m a ⌝ }
 {
     let word = if a % 2 == 0 { m.even } else { m.odd };
-    let place = (32 + a * e - 3 * e) / 2;
-    1 <= (word >> place) % 2
+    1 <= (word >> (a / 2 * e)) % 2
 }
 
 // The bits that are set in all words from .. to.
@@ -89,8 +96,8 @@ fn padded(word: u32, w: usize) -> u64
     (word as u64 * 65536) | (18446744073709551615 ^ (sheet * 65536))
 }
 
-// Bit k of the result is set where the 2 e bits from k on are, e the eighths of a level's cell: runs of 2 bits at level
-// 3, and of twice as many for each coarser level.
+// Bit k of the result is set where the 2 e bits from k on are, e the eighths of a level's cell: runs of 2 bits at
+// level 3, and of twice as many for each coarser level.
 fn runs(word: u64, level: usize) -> u64
     requires { ⌜ level ≤ 3 ⌝ }
     ensures { λ r. ⌜ Runs word (2 * Sheet.eighths level) r ⌝ }
@@ -110,6 +117,46 @@ fn runs(word: u64, level: usize) -> u64
     eight & (eight >> 8)
 }
 
+// Of the row of a level whose supports lie over a window, the functions whose cut support lies in the region of a level
+// from 1 to 3, in words that begin 16 places before the sheet.
+fn region_words(rows: &[u32; 96], w: usize, level: usize, window: Window, region: usize) -> Marks
+    requires { ⌜ (w ≤ 8) × (level ≤ 3) × (window .low ≤ window .high) × (window .high ≤ 32) × (1 ≤ region)
+        × (region ≤ 3) × Nested (now rows) ⌝ }
+    ensures { λ r. ⌜ ((H b : ℕ) → H ≤ 8 → Over H level b window
+        → RegionRow w H level b region (levelsOf (now (rows .entry))) (placed (Sheet.eighths level) r)) ⌝ }
+{
+    let first = 32 * region - 32;
+    let low = first + window.low;
+    let high = first + window.high;
+    let word = common(rows, low, high);
+    let odd = runs(padded(word, w), level);
+    // Every other support of level 3 halves two quarters and so covers three: two runs of two.
+    let even = if level == 3 { odd & (odd >> 1) } else { odd };
+    Marks { even, odd }
+}
+
+// Whether function a is marked in such words.
+fn stands(m: Marks, a: usize, e: usize) -> bool
+    requires { ⌜ (a * e ≤ 88) × (e ≤ 8) ⌝ }
+    ensures { λ r. ⌜ r ≡ marked e (placed e m) a ⌝ }
+{
+    let word = if a % 2 == 0 { m.even } else { m.odd };
+    let place = (32 + a * e - 3 * e) / 2;
+    1 <= (word >> place) % 2
+}
+
+// Such words from functions 0 and 1 on, whose supports start 3 and 2 cells before the sheet.
+fn place(m: Marks, level: usize) -> Marks
+    requires { ⌜ level ≤ 3 ⌝ }
+    ensures { λ r. ⌜ r ≡ placed (Sheet.eighths level) m ⌝ }
+{
+    let e = eighths(level);
+    Marks {
+        even: m.even >> ((32 - 3 * e) / 2),
+        odd: m.odd >> (16 - e),
+    }
+}
+
 // Of row b of a level, the functions whose cut support lies in the region of a level from 1 to 3.
 pub fn region_row(
     rows: &[u32; 96],
@@ -124,14 +171,7 @@ pub fn region_row(
     ensures { λ r. ⌜ RegionRow w h level b region (levelsOf (now (rows .entry))) r ⌝ }
 {
     let window = window_of(h, level, b);
-    let first = 32 * region - 32;
-    let low = first + window.low;
-    let high = first + window.high;
-    let word = common(rows, low, high);
-    let odd = runs(padded(word, w), level);
-    // Every other support of level 3 halves two quarters and so covers three: two runs of two.
-    let even = if level == 3 { odd & (odd >> 1) } else { odd };
-    Marks { even, odd }
+    place(region_words(rows, w, level, window, region), level)
 }
 
 // The bits of a word that are not set in another.
@@ -141,10 +181,11 @@ fn without(word: u64, other: u64) -> u64
     word ^ (word & other)
 }
 
-// Of row b of a level, the functions whose cut support lies in the region of their own level: at level 0 all.
-fn inside(rows: &[u32; 96], w: usize, h: usize, level: usize, b: usize) -> Marks
-    requires { ⌜ (w ≤ 8) × (h ≤ 8) × (level ≤ 3) × (b < functions h level) × Nested (now rows) ⌝ }
-    ensures { λ r. ⌜ RegionRow w h level b level (levelsOf (now (rows .entry))) r ⌝ }
+// Of such a row the functions whose cut support lies in the region of their own level, in such words: at level 0 all.
+fn inside(rows: &[u32; 96], w: usize, level: usize, window: Window) -> Marks
+    requires { ⌜ (w ≤ 8) × (level ≤ 3) × (window .low ≤ window .high) × (window .high ≤ 32) × Nested (now rows) ⌝ }
+    ensures { λ r. ⌜ ((H b : ℕ) → H ≤ 8 → Over H level b window
+        → RegionRow w H level b level (levelsOf (now (rows .entry))) (placed (Sheet.eighths level) r)) ⌝ }
 {
     if level == 0 {
         return Marks {
@@ -152,18 +193,19 @@ fn inside(rows: &[u32; 96], w: usize, h: usize, level: usize, b: usize) -> Marks
             odd: 18446744073709551615,
         };
     }
-    region_row(rows, w, h, level, b, level)
+    region_words(rows, w, level, window, level)
 }
 
 // Those whose cut support lies in the region of the level after it: at level 3 none.
-fn beyond(rows: &[u32; 96], w: usize, h: usize, level: usize, b: usize) -> Marks
-    requires { ⌜ (w ≤ 8) × (h ≤ 8) × (level ≤ 3) × (b < functions h level) × Nested (now rows) ⌝ }
-    ensures { λ r. ⌜ RegionRow w h level b (level + 1) (levelsOf (now (rows .entry))) r ⌝ }
+fn beyond(rows: &[u32; 96], w: usize, level: usize, window: Window) -> Marks
+    requires { ⌜ (w ≤ 8) × (level ≤ 3) × (window .low ≤ window .high) × (window .high ≤ 32) × Nested (now rows) ⌝ }
+    ensures { λ r. ⌜ ((H b : ℕ) → H ≤ 8 → Over H level b window
+        → RegionRow w H level b (level + 1) (levelsOf (now (rows .entry))) (placed (Sheet.eighths level) r)) ⌝ }
 {
     if level == 3 {
         return Marks { even: 0, odd: 0 };
     }
-    region_row(rows, w, h, level, b, level + 1)
+    region_words(rows, w, level, window, level + 1)
 }
 
 // The active functions of row b of a level.
@@ -171,10 +213,12 @@ pub fn active_row(rows: &[u32; 96], w: usize, h: usize, level: usize, b: usize) 
     requires { ⌜ (w ≤ 8) × (h ≤ 8) × (level ≤ 3) × (b < functions h level) × Nested (now rows) ⌝ }
     ensures { λ r. ⌜ ActiveRow w h level b (levelsOf (now (rows .entry))) r ⌝ }
 {
-    let own = inside(rows, w, h, level, b);
-    let finer = beyond(rows, w, h, level, b);
-    Marks {
+    let window = window_of(h, level, b);
+    let own = inside(rows, w, level, window);
+    let finer = beyond(rows, w, level, window);
+    let active = Marks {
         even: without(own.even, finer.even),
         odd: without(own.odd, finer.odd),
-    }
+    };
+    place(active, level)
 }

@@ -6,26 +6,18 @@ ghost use Rattle.surface.specs.Sheet.{functions};
 ghost use Rattle.rows.specs.Rows.{Nested};
 ghost use Rattle.activity.specs.Mark.{rowMarks, levelMarks};
 
-// Writes the marks of one row of a level, 1 for a marked function and 0 for another; a cell's side is e eighths. Even
-// and odd functions have words of marks of their own, so they are taken in pairs: the next pair stands e places on.
-fn mark_row(row: &mut [u8], m: super::Marks, e: usize)
-    requires { ⌜ (length (now row) * e ≤ 88) × (1 ≤ e) × (e ≤ 8) ⌝ }
-    ensures { λ r. ⌜ now (row .exit) ≡ rowMarks e m (length (now (row .entry))) ⌝ }
+// Writes the marks of one row of a level, 1 for a marked function and 0 for another; a cell's side is e eighths.
+fn mark_row(row: &mut [u8], marks: super::Marks, e: usize)
+    requires { ⌜ e ≤ 8 ⌝ }
+    ensures { λ r. ⌜ now (row .exit) ≡ rowMarks e marks (length (now (row .entry))) ⌝ }
 {
     let n = row.len();
-    let mut even = m.even >> ((32 - 3 * e) / 2);
-    let mut odd = m.odd >> (16 - e);
+    let mut m = marks;
     let mut a = 0;
     while a < n {
-        row[a] = (even % 2) as u8;
-        let next = a + 1;
-        if next == n {
-            return;
-        }
-        row[next] = (odd % 2) as u8;
-        even = even >> e;
-        odd = odd >> e;
-        a += 2;
+        row[a] = (m.even % 2) as u8;
+        m = super::next(m, e);
+        a += 1;
     }
 }
 

@@ -1,12 +1,13 @@
 // Which of the sixteen functions of a patch, four along u by four along v, have their cut support in the region of
 // their level.
-ghost use mathlib.Core.Path.{_≡_};
 ghost use Prim.Native.Nat.{_+_, _*_, _≤_, _<_};
+ghost use Rattle.surface.specs.Sheet as Sheet;
 ghost use Rattle.surface.specs.Sheet.{functions};
 ghost use Rattle.rows.specs.Rows.{levelsOf, Nested};
+ghost use Rattle.activity.specs.Marks.{placed, RegionRow};
 ghost use Rattle.activity.specs.Near.{NearRegion, Column};
 
-// Whether function a is marked in each of four rows.
+// Whether function a is marked in each of four rows, in words that begin 16 places before the sheet.
 fn column(
     m0: super::Marks,
     m1: super::Marks,
@@ -16,14 +17,22 @@ fn column(
     e: usize,
 ) -> [bool; 4]
     requires { ⌜ (a * e ≤ 88) × (e ≤ 8) ⌝ }
-    ensures { λ x. ⌜ Column e m0 m1 m2 m3 a x ⌝ }
+    ensures { λ x. ⌜ Column e (placed e m0) (placed e m1) (placed e m2) (placed e m3) a x ⌝ }
 {
     [
-        super::is_marked(m0, a, e),
-        super::is_marked(m1, a, e),
-        super::is_marked(m2, a, e),
-        super::is_marked(m3, a, e),
+        super::stands(m0, a, e),
+        super::stands(m1, a, e),
+        super::stands(m2, a, e),
+        super::stands(m3, a, e),
     ]
+}
+
+// Row b of a level for the region of its own level, in such words.
+fn row(rows: &[u32; 96], w: usize, h: usize, level: usize, b: usize) -> super::Marks
+    requires { ⌜ (w ≤ 8) × (h ≤ 8) × (1 ≤ level) × (level ≤ 3) × (b < functions h level) × Nested (now rows) ⌝ }
+    ensures { λ r. ⌜ RegionRow w h level b level (levelsOf (now (rows .entry))) (placed (Sheet.eighths level) r) ⌝ }
+{
+    super::region_words(rows, w, level, super::window_of(h, level, b), level)
 }
 
 // Entry [k][l] is that of function (a + k, b + l) of a level from 1 on.
@@ -40,10 +49,10 @@ pub fn near_region(
     ensures { λ x. ⌜ NearRegion w h level a b (levelsOf (now (rows .entry))) x ⌝ }
 {
     let e = super::eighths(level);
-    let m0 = super::region_row(rows, w, h, level, b, level);
-    let m1 = super::region_row(rows, w, h, level, b + 1, level);
-    let m2 = super::region_row(rows, w, h, level, b + 2, level);
-    let m3 = super::region_row(rows, w, h, level, b + 3, level);
+    let m0 = row(rows, w, h, level, b);
+    let m1 = row(rows, w, h, level, b + 1);
+    let m2 = row(rows, w, h, level, b + 2);
+    let m3 = row(rows, w, h, level, b + 3);
     [
         column(m0, m1, m2, m3, a, e),
         column(m0, m1, m2, m3, a + 1, e),

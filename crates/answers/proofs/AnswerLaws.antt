@@ -1,17 +1,56 @@
 -- Laws of answers and lent buffers that the calls share.
 use mathlib.Core.Path.{_≡_, refl, ap, subst, _∙_}
+use mathlib.Core.List.{List}
 use Prim.Native.Nat.{ℕ, zero, suc}
+use lib.IntN.{ℤ}
 use Rattle.surface.specs.Table.{_orElse_}
-use Rattle.surface.specs.Calls.{Answer, refused, gives, answer, afterwards}
+use Rattle.surface.specs.Calls.{Answer, refused, gives, answer, afterwards, put, written, TableMeets, done, SliceMeets}
 
 -- a cause is the refusal, and the buffer keeps its contents
-pub refusal : {A : Type 0} (n : ℕ) (a : A) → (n ≡ 0 → ⊥) → refused n ≡ answer n a
+refusal : {A : Type 0} (n : ℕ) (a : A) → (n ≡ 0 → ⊥) → refused n ≡ answer n a
 refusal zero a h = absurd (h refl)
 refusal (suc n) a h = refl
 
-pub kept : {A : Type 0} (n : ℕ) (old new : A) → (n ≡ 0 → ⊥) → old ≡ afterwards n old new
+pub refused-with : {A : Type 0} {c k : ℕ} → k ≡ c → (k ≡ 0 → ⊥) → (a : A) → refused k ≡ answer c a
+refused-with {k} e h a = refusal k a h ∙ ap (λ c. answer c a) e
+
+pub gives-with : {A : Type 0} {c : ℕ} {a x : A} → 0 ≡ c → x ≡ a → gives x ≡ answer c a
+gives-with {a} e p = ap gives p ∙ ap (λ c. answer c a) e
+
+kept : {A : Type 0} (n : ℕ) (old new : A) → (n ≡ 0 → ⊥) → old ≡ afterwards n old new
 kept zero old new h = absurd (h refl)
 kept (suc n) old new h = refl
+
+-- ---- a call that writes a table, or a slice: refused with the cause and nothing written, or done
+
+pub table-refused : {A : Type 0} {c k : ℕ} → k ≡ c → (k ≡ 0 → ⊥) → (a : A) (tree : List ℕ) (numbers : List ℤ)
+    (treeOut : List ℕ) (numbersOut : List ℤ)
+    → TableMeets (written c a tree numbers treeOut numbersOut) (refused k) treeOut numbersOut
+table-refused {c} {k} e h a tree numbers treeOut numbersOut = (
+  refused-with e h a,
+  kept k treeOut (put tree treeOut) h ∙ ap (λ c. afterwards c treeOut (put tree treeOut)) e,
+  kept k numbersOut numbers h ∙ ap (λ c. afterwards c numbersOut numbers) e,
+)
+
+pub table-done : {A : Type 0} {c : ℕ} {a x : A} {numbers after : List ℤ} → 0 ≡ c → x ≡ a → after ≡ numbers
+    → (tree treeOut t : List ℕ) (numbersOut : List ℤ) → t ≡ put tree treeOut
+    → TableMeets (written c a tree numbers treeOut numbersOut) (gives x) t after
+table-done {a} {numbers} e p q tree treeOut t numbersOut r = (
+  gives-with e p,
+  r ∙ ap (λ c. afterwards c treeOut (put tree treeOut)) e,
+  q ∙ ap (λ c. afterwards c numbersOut numbers) e,
+)
+
+pub slice-refused : {A : Type 0} {c k : ℕ} → k ≡ c → (k ≡ 0 → ⊥) → (new lent : List A)
+    → SliceMeets (done c new lent) (refused k) lent
+slice-refused {k} e h new lent = (
+  refused-with e h tt,
+  kept k lent new h ∙ ap (λ c. afterwards c lent new) e,
+)
+
+pub slice-done : {A : Type 0} {c : ℕ} {new after : List A} → 0 ≡ c → after ≡ new → (lent : List A)
+    → SliceMeets (done c new lent) (gives tt) after
+slice-done {new} e p lent = (gives-with e refl, p ∙ ap (λ c. afterwards c lent new) e)
 
 -- ---- a call that makes something of another's answer
 

@@ -1,5 +1,2 @@
-pub mod SliceLaws
-pub mod ChildLaws
-pub mod LevelLaws
-pub mod ClearLaws
 pub mod CarryLaws
+pub mod ChildLaws

@@ -1,14 +1,13 @@
 -- The carried values in their slice, and what the steps that write them give.
 use mathlib.Core.Path.{_≡_}
 use mathlib.Core.Bool.{Bool, cond}
-use mathlib.Core.List.{List, _++_}
+use mathlib.Core.List.{List}
 use Prim.Native.Nat.{ℕ, _+_, _*_, _/_, _≤_, _<_}
 use lib.IntN.{ℤ, pos, natAbs, _*ℤ_}
-use lib.ListN.{length, getD, take, drop}
-use Rattle.finite.specs.Range.{sum, tableFrom, grid}
+use lib.ListN.{length, getD, take}
+use Rattle.finite.specs.Range.{sum, tableFrom}
 use Rattle.surface.specs.Sheet.{functions}
-use Rattle.surface.specs.Support.{inRegion}
-use Rattle.surface.specs.Table.{places, slots, coefficients, limit}
+use Rattle.surface.specs.Table.{slots, coefficients, sliceOf, limit}
 use Rattle.surface.specs.Carry.{carried}
 use Rattle.surface.specs.Patch.{stencil}
 use Rattle.patch.specs.Steps.{midway}
@@ -20,11 +19,14 @@ CarriedFit W H rows cs =
     (L a b : ℕ) → L < 4 → a < functions W L → b < functions H L
     → natAbs (carried W H (levelsOf rows) (coefficients W H cs) L a b) ≤ limit L
 
--- each function's place holds its carried value
-pub record Carries (W H : ℕ) (rows : List ℕ) (cs out : List ℤ) : Type 0 where
+-- each function's carried value at its place
+abbrev pub carriedSlice : ℕ → ℕ → List ℕ → List ℤ → List ℤ
+carriedSlice W H rows cs = sliceOf W H (carried W H (levelsOf rows) (coefficients W H cs))
+
+-- at the first k places
+pub record CarriedTo (k W H : ℕ) (rows : List ℕ) (cs out : List ℤ) : Type 0 where
   pub size : length out ≡ slots W H
-  pub values : (L a b : ℕ) → L < 4 → a < functions W L → b < functions H L
-      → coefficients W H out L a b ≡ carried W H (levelsOf rows) (coefficients W H cs) L a b
+  pub front : take k out ≡ take k (carriedSlice W H rows cs)
 
 -- numbers of at most m in size
 abbrev pub Within : ℕ → List ℤ → Type 0
@@ -54,16 +56,4 @@ carriedIf t own sums a = cond t own (childFrom sums (a / 2) 1 a)
 
 -- a row with its own coefficients
 abbrev pub rowCarried : (ℕ → Bool) → List ℤ → List ℤ → List ℤ
-rowCarried p sums row = tableFrom 0 (length row) (λ a. carriedIf (p a) (getD row a (pos 0)) sums a)
-
--- function (a, b) of level L + 1, from the parts of level L and of its own level
-abbrev pub carriedAt : ℕ → ℕ → ℕ → List ℕ → List ℤ → List ℤ → ℕ → ℕ → ℤ
-carriedAt W H L rows s own a b =
-    cond (inRegion W H (levelsOf rows) (L + 1) a b) (getD own (b * functions W (L + 1) + a) (pos 0))
-    (childOf a (λ i. columnChild s (functions W L) b (a / 2 + i)))
-
--- the part of level L and after it that of level L + 1
-abbrev pub levelCarried : ℕ → ℕ → ℕ → List ℕ → List ℤ → List ℤ
-levelCarried W H L rows two =
-    let s = take (places W H L) two in
-    s ++ grid (functions W (L + 1)) (functions H (L + 1)) (carriedAt W H L rows s (drop (places W H L) two))
+rowCarried p sums own = tableFrom 0 (length own) (λ a. carriedIf (p a) (getD own a (pos 0)) sums a)

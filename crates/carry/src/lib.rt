@@ -1,4 +1,124 @@
-// What an insertion does to the coefficients: every function's carried value, level by level, then 0 at the places
-// that are passive under the new regions.
-pub mod clear;
-pub mod values;
+// The carried values of all functions, level by level, each once: a function's own coefficient where its cut support
+// lies in the region of its level, else the two-scale sum of its parents' carried values, first along v and then
+// along u.
+ghost use mathlib.Core.Path.{_≡_};
+ghost use Prim.Native.Nat.{_+_, _*_, _/_, _%_, _≤_, _<_};
+ghost use lib.Dec.{leb};
+ghost use lib.ListN.{length, take};
+ghost use Rattle.surface.specs.Table.{start, slots};
+ghost use Rattle.patch.specs.Steps.{midway, Small};
+ghost use Rattle.rows.specs.Rows.{Nested};
+ghost use Rattle.activity.specs.Marks.{marked};
+ghost use Rattle.carry.specs.Carried.{CarriedFit, carriedSlice, CarriedTo, Within};
+ghost use Rattle.carry.specs.Carried.{childFrom, AlongV, carriedIf, rowCarried};
+
+// Child c of its two or three parents: the first stands at a place, each other a step after the one before it.
+fn child(values: &[i64], at: usize, step: usize, c: usize) -> i64
+    requires { ⌜ (at + step < length (now values)) × (c % 2 ≡ 1 → at + step + step < length (now values))
+        × Within midway (now values) ⌝ }
+    ensures { λ r. ⌜ (r ≡ childFrom (now (values .entry)) at step c)
+        × (Within 131072000 (now (values .entry)) → Small r) ⌝ }
+{
+    let x = values[at];
+    let next = at + step;
+    let y = values[next];
+    if c % 2 == 0 {
+        return patch::even(x, y);
+    }
+    patch::odd(x, y, values[next + step])
+}
+
+// The first step of row b's sums, along v: a child for each of the n columns of the coarser level.
+fn along_v(coarse: &[i64], n: usize, b: usize) -> [i64; 35]
+    requires { ⌜ (n ≤ 35) × ((b / 2 + b % 2 + 2) * n ≤ length (now coarse)) × Within 131072000 (now coarse) ⌝ }
+    ensures { λ r. ⌜ AlongV n b (now (coarse .entry)) r ⌝ }
+{
+    let mut sums = [0; 35];
+    let first = b / 2 * n;
+    let mut c = 0;
+    while c < n {
+        sums[c] = child(coarse, first + c, n, b);
+        c += 1;
+    }
+    sums
+}
+
+// The carried value of function a: its own coefficient if its mark is 1, else the child along u of the sums along v.
+fn carried(own: i64, sums: &[i64; 35], mark: u64, a: usize) -> i64
+    requires { ⌜ (a < 67) × Within midway (now sums) ⌝ }
+    ensures { λ r. ⌜ r ≡ carriedIf (leb 1 mark) own (now (sums .entry)) a ⌝ }
+{
+    if 1 <= mark {
+        return own;
+    }
+    child(sums, a / 2, 1, a)
+}
+
+// Writes the carried values of a row, given its own coefficients: those functions are marked whose cut support lies in
+// the region of their level; a cell's side is e eighths.
+fn fill_row(row: &mut [i64], own: &[i64], sums: &[i64; 35], inside: activity::Marks, e: usize)
+    requires { ⌜ (length (now row) ≤ 67) × (length (now own) ≡ length (now row)) × (e ≤ 8)
+        × Within midway (now sums) ⌝ }
+    ensures { λ r. ⌜ now (row .exit) ≡ rowCarried (marked e inside) (now (sums .entry)) (now (own .entry)) ⌝ }
+{
+    let n = row.len();
+    let mut m = inside;
+    let mut a = 0;
+    while a < n {
+        row[a] = carried(own[a], sums, m.even % 2, a);
+        m = activity::next(m, e);
+        a += 1;
+    }
+}
+
+// Writes the carried values of the level after `coarse`; those of the levels up to `coarse` are written.
+fn fill_level(out: &mut [i64], cs: &[i64], rows: &[u32; 96], w: usize, h: usize, coarse: usize)
+    requires { ⌜ (w ≤ 8) × (h ≤ 8) × (coarse < 3) × (length (now cs) ≡ slots w h) × Nested (now rows)
+        × CarriedFit w h (now rows) (now cs) × CarriedTo (start w h (coarse + 1)) w h (now rows) (now cs) (now out) ⌝ }
+    ensures { λ r. ⌜ CarriedTo (start w h (coarse + 2)) w h (now (rows .entry)) (now (cs .entry)) (now (out .exit)) ⌝ }
+{
+    let level = coarse + 1;
+    let low = coefficients::start(w, h, coarse);
+    let first = low + coefficients::places(w, h, coarse);
+    let columns = coefficients::functions(w, coarse);
+    let n = coefficients::functions(w, level);
+    let m = coefficients::functions(h, level);
+    let e = activity::eighths(level);
+    let mut from = first;
+    let mut b = 0;
+    while b < m {
+        let inside = activity::region_row(rows, w, h, level, b, level);
+        let sums = along_v(&out[low..first], columns, b);
+        let to = from + n;
+        fill_row(&mut out[from..to], &cs[from..to], &sums, inside, e);
+        from = to;
+        b += 1;
+    }
+}
+
+// Copies the first n numbers of a slice.
+fn copy(out: &mut [i64], numbers: &[i64], n: usize)
+    requires { ⌜ (n ≤ length (now out)) × (n ≤ length (now numbers)) ⌝ }
+    ensures { λ r. ⌜ (length (now (out .exit)) ≡ length (now (out .entry)))
+        × (take n (now (out .exit)) ≡ take n (now (numbers .entry))) ⌝ }
+{
+    let mut i = 0;
+    while i < n {
+        out[i] = numbers[i];
+        i += 1;
+    }
+}
+
+// The carried values of all functions of all levels, each at its place.
+pub fn fill(cs: &[i64], rows: &[u32; 96], w: usize, h: usize, out: &mut [i64])
+    requires { ⌜ (w ≤ 8) × (h ≤ 8) × (length (now cs) ≡ slots w h) × (length (now out) ≡ slots w h)
+        × Nested (now rows) × CarriedFit w h (now rows) (now cs) ⌝ }
+    ensures { λ _. ⌜ now (out .exit) ≡ carriedSlice w h (now (rows .entry)) (now (cs .entry)) ⌝ }
+{
+    copy(out, cs, coefficients::places(w, h, 0));
+    let mut coarse = 0;
+    while coarse < 3 {
+        fill_level(out, cs, rows, w, h, coarse);
+        coarse += 1;
+    }
+}

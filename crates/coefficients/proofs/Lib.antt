@@ -1,4 +1,3 @@
 pub mod FaultLaws
-pub mod FillLaws
 pub mod Parts
 pub mod Sizes

@@ -1,8 +1,9 @@
 -- Where a row stands in its level's part, and a level's part in the slice; the elements of a part.
 use mathlib.Core.Path.{_≡_, sym, ap, subst, _∙_}
 use mathlib.Core.List.{List}
-use Prim.Native.Nat.{ℕ, _+_, _-_, _*_, _≤_, _<_}
-use native.Mathlib.Nat.{mul-comm, suc-mul, mul-le-mul, mul-le-mul-right}
+use Prim.Native.Nat.{ℕ, suc, _+_, _-_, _*_, _≤_, _<_}
+use native.Mathlib.Numerals.{add-one}
+use native.Mathlib.Nat.{add-assoc, mul-comm, suc-mul, mul-le-mul, mul-le-mul-right}
 use native.Mathlib.Omega.{arith}
 use lib.IntN.{ℤ, pos}
 use lib.ListN.{length, getD, take, drop, length-take, length-drop}
@@ -52,3 +53,30 @@ level-at W H L first size cs begins sized a b ha hb =
     (subst (λ k. b * functions W L + a < k) (mul-comm (functions H L) (functions W L) ∙ sym sized)
     (place-below (functions W L) (functions H L) a b ha hb))
     ∙ ap (λ k. getD cs (k + (b * functions W L + a)) (pos 0)) begins
+
+-- ---- row b of level L, of n places from place `from` on
+
+pub rows-none : (first n : ℕ) → first ≡ first + 0 * n
+rows-none first n = omega arith
+
+pub row-next : (b n first : ℕ) {from : ℕ} → from ≡ first + b * n → from + n ≡ first + (b + 1) * n
+row-next b n first e = rw (e, add-one b, suc-mul b n) (add-assoc first (b * n) n)
+
+module _ (W H L b n from : ℕ) (columns : n ≡ functions W L) (begins : from ≡ start W H L + b * n) where
+  pub row-end : L < 4 → b < functions H L → from + n ≤ slots W H
+  row-end hL below =
+      let all : suc b * n ≤ functions H L * n = mul-le-mul-right n below in
+      let part : functions H L * n ≡ places W H L = ap (λ n. functions H L * n) columns ∙ mul-comm (functions H L) _ in
+      omega (arith, start-before W H L 4 hL, suc-mul b n)
+
+  -- its coefficients, in a list that is as it was from the row on
+  pub row-at : (out before : List ℤ) (a : ℕ) → drop from out ≡ drop from before → a < n
+      → getD (part from n out) a (pos 0) ≡ coefficients W H before L a b
+  unfolding coefficients
+  row-at out before a rest h =
+      part-at from n out a h
+      ∙ sym (getD-drop from out a (pos 0))
+      ∙ ap (λ l. getD l a (pos 0)) rest
+      ∙ getD-drop from before a (pos 0)
+      ∙ ap (λ k. getD before (k + a) (pos 0)) (begins ∙ ap (λ n. start W H L + b * n) columns)
+      ∙ ap (λ i. getD before i (pos 0)) (add-assoc (start W H L) (b * functions W L) a)

@@ -1,6 +1,8 @@
 -- The sizes of the levels, level by level.
 use mathlib.Core.Path.{_≡_, refl, ap}
-use Prim.Native.Nat.{ℕ, _+_, _*_, _^_}
+use Prim.Native.Nat.{ℕ, _+_, _*_, _^_, _≤_, _<_}
+use native.Mathlib.Nat.{mul-le-mul-left, pow-le-pow-right}
+use native.Mathlib.Omega.{arith}
 use lib.IntN.{pos}
 use Rattle.surface.specs.Sheet.{functions}
 use Rattle.surface.specs.Table.{places, start, limit}
@@ -30,3 +32,8 @@ starts W H =
       ap (λ k. k + places W H 1 + places W H 2) z,
       ap (λ k. k + places W H 1 + places W H 2 + places W H 3) z,
     )
+
+pub limit-below : (L : ℕ) → L ≤ 3 → limit L < 9000000000
+limit-below L h =
+    let power : 64 ^ L ≤ 262144 = pow-le-pow-right {n = 64} (omega arith) {i = L} {j = 3} h in
+    omega (arith, mul-le-mul-left 32000 power)

@@ -3,10 +3,14 @@ pub mod fill;
 
 ghost use mathlib.Core.Path.{_≡_};
 ghost use mathlib.Core.Bool.{_&&_};
-ghost use Prim.Native.Nat.{_≤_};
+ghost use Prim.Native.Nat.{ℕ, _≤_, _<_};
+ghost use lib.Dec.{ltb};
 ghost use Rattle.surface.specs.Sheet as Sheet;
 ghost use Rattle.surface.specs.Table as Table;
-ghost use lib.IntN.{pos};
+ghost use Rattle.surface.specs.Table.{cause, _orElse_};
+ghost use Rattle.surface.specs.Calls.{lengthCause};
+ghost use lib.IntN.{pos, natAbs};
+ghost use lib.ListN.{length};
 
 // A side of a sheet is 1 to 8 cells.
 pub fn good_side(n: usize) -> bool
@@ -85,4 +89,30 @@ pub fn limit(level: usize) -> i64
         return 131072000;
     }
     8388608000
+}
+
+// Whether a number is past a limit, above or below.
+pub fn past(number: i64, limit: i64) -> bool
+    requires { ⌜ ((m : ℕ) × (limit ≡ pos m) × (m < 9000000000)) ⌝ }
+    ensures { λ r. ⌜ ((m : ℕ) → limit ≡ pos m → r ≡ ltb m (natAbs number)) ⌝ }
+{
+    if limit < number {
+        return true;
+    }
+    number < 0 - limit
+}
+
+// 16, then 17, of the outputs of a call that writes a table whose tree has this many bytes.
+pub fn outputs_cause(w: usize, h: usize, bytes: usize, tree_out: &[u8], numbers_out: &[i64]) -> u8
+    requires { ⌜ (w ≤ 8) × (h ≤ 8) ⌝ }
+    ensures { λ r. ⌜ r ≡ (lengthCause (Table.slots w h) (now («numbers_out» .entry))
+        orElse cause 17 (ltb (length (now («tree_out» .entry))) bytes)) ⌝ }
+{
+    if numbers_out.len() != start(w, h, 4) {
+        return 16;
+    }
+    if tree_out.len() < bytes {
+        return 17;
+    }
+    0
 }

@@ -11,7 +11,8 @@ use lib.ListN.{length, getD, drop, length-append}
 use Rattle.surface.specs.Sheet.{functions, goodSide}
 use Rattle.surface.specs.Table.{_orElse_, places, start, slots, treeOf, formed, Acceptable}
 use Rattle.surface.specs.Calls.{gives, lengthCause, treeOutCause}
-use Rattle.surface.specs.TableFile.{File, declined, contains, fileContents, FileResult, fileOutcomeOf, fileOutcome}
+use Rattle.surface.specs.Fields.{declined, contains}
+use Rattle.surface.specs.TableFile.{File, fileContents, FileResult, fileOutcomeOf, fileOutcome}
 use Rattle.surface.proofs.TableLaws.{sound, good-side, tree-formed}
 use Rattle.surface.proofs.Refusals.{answer-gives}
 use Rattle.coefficients.proofs.Sizes.{starts}

@@ -3,20 +3,19 @@ use mathlib.Core.Path.{_≡_, refl, sym, ap, ap₂, _∙_}
 use mathlib.Core.List.{List}
 use Prim.Native.Nat.{ℕ, _+_, _≤_, _<_}
 use native.Mathlib.Omega.{arith}
-use lib.Dec.{leb}
 use lib.IntN.{ℤ}
 use lib.ListN.{length, getD, take, drop}
 use lib.Seq.{take-append-seam, getD-take, getD-drop}
-use borrow.Author.Tests.{leb-true, eqb-true, eq-eqb, le-ltb}
+use borrow.Author.Tests.{eq-eqb, le-ltb}
 use Rattle.surface.specs.Table.{_orElse_, slots}
 use Rattle.surface.specs.Calls.{refused, gives, lengthCause, treeOutCause}
-use Rattle.surface.specs.TableFile.{lengthAt, Loaded, File, declined, contains, fileContents}
-use Rattle.surface.specs.TableFile.{FileResult, fileOutcomeOf, fileOutcome}
-use Rattle.surface.proofs.Least.{both}
+use Rattle.surface.specs.Fields.{declined, contains, lengthAt}
+use Rattle.surface.specs.TableFile.{Loaded, File, fileContents, FileResult, fileOutcomeOf, fileOutcome}
 use Rattle.surface.proofs.Refusals.{answer-gives, answer-refused}
-use Rattle.tablefile.proofs.FieldLaws.{bodyOf, restOf, body-length}
+use Rattle.fields.proofs.FieldLaws.{bodyOf, restOf, body-length}
 use Rattle.tablefile.proofs.FileLaws.{accepted}
-use Rattle.corners.specs.Text.{refusedLine, tableText, textOf, cornerText}
+use Rattle.text.specs.Text.{refusedLine}
+use Rattle.corners.specs.Text.{tableText, textOf, cornerText}
 use Rattle.corners.specs.Buffers.{placesOf, placesNamed}
 use Rattle.corners.proofs.CornerLaws.{names-some, both-sides}
 
@@ -26,7 +25,7 @@ use Rattle.corners.proofs.CornerLaws.{names-some, both-sides}
 pub named-slots : (s : List ℕ) (f : Loaded) → fileContents s ≡ contains f → placesNamed s ≡ slots (f .W) (f .H)
 named-slots s f e =
     let r = accepted s f e in
-    let two : lengthAt s ≡ 2 = eqb-true (lengthAt s) 2 (r .sides .fit) in
+    let two : lengthAt s ≡ 2 = omega (arith, r .sides .long, r .sides .short) in
     let at : (i : ℕ) → i < 2 → getD (bodyOf s) i 0 ≡ getD s (3 + i) 0 =
     λ i h. getD-take (lengthAt s) (drop 3 s) i 0 (omega arith) ∙ getD-drop 3 s i 0 in
     names-some s (omega (arith, r .sides .whole))
@@ -36,9 +35,9 @@ named-slots s f e =
 pub tree-short : (s : List ℕ) (f : Loaded) → fileContents s ≡ contains f → length (f .tree) ≤ 1365
 tree-short s f e =
     let r = accepted s f e in
-    let n = lengthAt (restOf s) in
-    let size : length (f .tree) ≡ n = ap length (sym (r .treeBytes)) ∙ body-length (restOf s) (r .tree .whole) in
-    omega (arith, leb-true n 1365 (both (leb 1 n) (leb n 1365) (r .tree .fit) .1))
+    let size : length (f .tree) ≡ lengthAt (restOf s) =
+    ap length (sym (r .treeBytes)) ∙ body-length (restOf s) (r .tree .whole) in
+    omega (arith, r .tree .short)
 
 -- ---- the text by the answer
 

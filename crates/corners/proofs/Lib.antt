@@ -1,4 +1,3 @@
 pub mod CornerLaws
-pub mod TextLaws
 pub mod FileText
 pub mod Theorems

@@ -14,15 +14,17 @@ use Rattle.surface.specs.Patch.{patch, patchReading}
 use Rattle.surface.specs.Table.{levels, start, coefficients, withinLimits, passiveZero, regionCause, tableCause}
 use Rattle.surface.specs.Table.{Acceptable}
 use Rattle.surface.specs.Calls.{wholeWatts}
-use Rattle.surface.specs.TableFile.{field, fileContents}
+use Rattle.surface.specs.Fields.{field}
+use Rattle.surface.specs.TableFile.{sidesField, fileContents}
 use Rattle.surface.specs.Bench.{S, flat}
 use Rattle.surface.proofs.PatchReading.{patch-reading}
 use Rattle.tablefile.proofs.LongLaws.{cut-contents}
 use Rattle.tablefile.proofs.Saved.{saved-loads}
-use Rattle.corners.specs.Text.{widthWithin, decimal, header, refusedLine, line, cornerLine}
+use Rattle.text.specs.Text.{widthWithin, decimal, header, refusedLine, line}
+use Rattle.corners.specs.Text.{cornerLine}
 use Rattle.corners.specs.Text.{tableText, textOf, cornerText}
 use Rattle.corners.specs.Claims.{DecimalIsFewest, FrontDecides, BenchText, RefusedText}
-use Rattle.corners.proofs.TextLaws.{fewest-decimal}
+use Rattle.text.proofs.TextLaws.{fewest-decimal}
 
 pub decimal-is-fewest : DecimalIsFewest
 decimal-is-fewest = fewest-decimal
@@ -32,7 +34,7 @@ unfolding cornerText
 front-decides s n h = ap textOf (cut-contents s n h)
 
 pub refused-text-12 : RefusedText
-unfolding cornerText fileContents field refusedLine decimal widthWithin
+unfolding cornerText fileContents sidesField field refusedLine decimal widthWithin
 refused-text-12 = refl
 
 -- ---- the bench table

@@ -5,8 +5,9 @@ use Prim.Native.Nat.{ℕ, _≤_}
 use lib.ListN.{take}
 use Rattle.io.specs.Digits.{digits, Fewest}
 use Rattle.surface.specs.Bench.{S, flat}
-use Rattle.tablefile.specs.Saved.{fileOf}
-use Rattle.corners.specs.Text.{decimal, header, cornerText}
+use Rattle.surface.specs.TableFile.{fileOf}
+use Rattle.text.specs.Text.{decimal, header}
+use Rattle.corners.specs.Text.{cornerText}
 
 -- The text of a number is what `io::decimal` puts for it: the fewest decimal digits that hold it, and at least one.
 abbrev pub DecimalIsFewest : Type 0

@@ -1,7 +1,5 @@
 // The corner program: reads a table file from standard input and prints the whole watts at each cell corner, or the
 // refusal number of the file. The table is judged once, by file reading.
-mod text;
-
 ghost use mathlib.Core.Path.{_≡_};
 ghost use mathlib.Core.List.{List};
 ghost use Prim.Native.Nat.{ℕ, _+_, _*_, _≤_};
@@ -12,9 +10,10 @@ ghost use Rattle.surface.specs.Table.{Acceptable, tableReading};
 ghost use Rattle.surface.specs.Calls.{wholeWatts};
 ghost use Rattle.rows.specs.Rows.{levelRows};
 ghost use Rattle.point.specs.OfTable.{OfTable};
+ghost use Rattle.fields.specs.Put.{Put};
 ghost use Rattle.finite.specs.Range.{joined};
 ghost use Rattle.corners.specs.Text.{cornerLine, tableText, cornerText};
-ghost use Rattle.corners.specs.Buffers.{Put, placesOf, placesNamed};
+ghost use Rattle.corners.specs.Buffers.{placesOf, placesNamed};
 
 // The places of a table on this sheet; none where there is no such sheet.
 fn places_of(w: usize, h: usize) -> usize
@@ -33,10 +32,10 @@ fn places_of(w: usize, h: usize) -> usize
 fn places_named(file: &[u8]) -> usize
     ensures { λ r. ⌜ (r ≡ placesNamed (now (file .entry))) × (r ≤ 6196) ⌝ }
 {
-    if file.len() < 5 {
+    if file.len() < loading::TREE_FIELD {
         return 0;
     }
-    places_of(wide(file[3]), wide(file[4]))
+    places_of(wide(file[loading::W]), wide(file[loading::H]))
 }
 
 fn wide(b: u8) -> usize

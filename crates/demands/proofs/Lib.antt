@@ -1,1 +1,3 @@
 pub mod Theorem
+pub mod LinkedDemandThree
+pub mod LinkedBench

@@ -5,15 +5,15 @@ use Prim.Native.Nat.{ℕ}
 use lib.IntN.{ℤ}
 use Rattle.surface.specs.Table.{Acceptable, tableReading}
 use Rattle.surface.specs.Calls.{Answer, exactOutcome}
-use Rattle.surface.specs.Demands.{Insertion, Contents, left, outcomeOf, step, afterAll}
+use Rattle.surface.specs.Demands.{Contents, left, outcomeOf, Step, insertion, afterStep, afterAll}
 use Rattle.surface.proofs.Demands.{reading-given, linear-readings, bracketed-readings, refinement-moves-no-reading}
 use Rattle.answers.specs.Answers.{exactAnswer}
-use Rattle.demands.specs.DemandThree.{Made, MadeAsPromised, leftBy, Kept, standing, ReadingStays}
+use Rattle.demands.specs.DemandThree.{Made, insert, MadeAsPromised, leftBy, Kept, standing, ReadingStays}
 use Rattle.demands.specs.DemandThree.{LinearOfCalls, BracketedOfCalls, ListsMoveNothing, DemandThree}
 
 -- calls of one kind, each of which leaves the table of its outcome, leave as a list the table of all outcomes
 stands : {M : Type 0} (W H : ℕ) (keeps : Contents → M → Type 0) (leaves : Contents → M → Contents)
-    (lent : M → Insertion) → ((c : Contents) (m : M) → keeps c m → leaves c m ≡ step W H c (lent m))
+    (lent : M → Step) → ((c : Contents) (m : M) → keeps c m → leaves c m ≡ afterStep W H c (lent m))
     → (c : Contents) (ms : List M) → Kept keeps leaves c ms → standing leaves c ms ≡ afterAll W H c (map lent ms)
 unfolding standing Kept afterAll
 stands W H keeps leaves lent one c [] k = refl
@@ -23,7 +23,7 @@ stands W H keeps leaves lent one c (m ∷ ms) k =
 
 -- so such a list leaves an acceptable table and moves no answer that is the outcome of the exact reading
 pub list-moves-nothing : {M : Type 0} (W H : ℕ) (keeps : Contents → M → Type 0) (leaves : Contents → M → Contents)
-    (lent : M → Insertion) → ((c : Contents) (m : M) → keeps c m → leaves c m ≡ step W H c (lent m))
+    (lent : M → Step) → ((c : Contents) (m : M) → keeps c m → leaves c m ≡ afterStep W H c (lent m))
     → (c : Contents) (ms : List M) → Acceptable W H (c .tree) (c .numbers) → Kept keeps leaves c ms
     → Acceptable W H (standing leaves c ms .tree) (standing leaves c ms .numbers)
     × ((u v : ℕ) (before after : Answer ℤ) → before ≡ exactOutcome W H (c .tree) (c .numbers) u v
@@ -46,9 +46,12 @@ list-moves-nothing W H keeps leaves lent one c ms acc k =
           },
     )
 
--- one call of `insert` leaves the table that its outcome does
-left-step : (W H : ℕ) (c : Contents) (m : Made) → MadeAsPromised W H c m → leftBy c m ≡ step W H c (m .lent)
-left-step W H c m p =
+-- one call leaves the table that its outcome does
+abbrev lentTo : Made → Step
+lentTo (insert m) = insertion (m .lent)
+
+left-step : (W H : ℕ) (c : Contents) (m : Made) → MadeAsPromised W H c m → leftBy c m ≡ afterStep W H c (lentTo m)
+left-step W H c (insert m) p =
     ap (λ r. left c r (m .tree) (m .numbers)) (p .0)
     ∙ ap₂ (left c (outcomeOf W H c (m .lent) .result)) (p .1) (p .2)
 
@@ -63,7 +66,7 @@ bracketed W H c u v r p n e = bracketed-readings W H (c .tree) (c .numbers) u v 
 
 lists : ListsMoveNothing
 lists W H c ms acc k =
-    let all = list-moves-nothing W H (MadeAsPromised W H) leftBy (λ m. m .lent) (left-step W H) c ms acc k in
+    let all = list-moves-nothing W H (MadeAsPromised W H) leftBy lentTo (left-step W H) c ms acc k in
     (all .0, λ u v before after p q. all .1 u v (exactAnswer before) (exactAnswer after) p q)
 
 pub demand-three : DemandThree

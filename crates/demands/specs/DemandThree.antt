@@ -60,20 +60,24 @@ standing leaves c (m ∷ ms) = standing leaves (leaves c m) ms
 
 -- A call of `insert` that was made: "its own box, level and outputs, whatever those are", its answer, and what its
 -- outputs then held.
-pub record Made : Type 0 where
+pub record InsertMade : Type 0 where
   pub lent : Insertion
   pub answer : Length
   pub tree : List ℕ
   pub numbers : List ℤ
 
+-- A call of the list, by its kind.
+pub data Made : Type 0 where
+  insert : InsertMade → Made
+
 -- It kept its promise, on the sheet W by H and the table c.
 abbrev pub MadeAsPromised : ℕ → ℕ → Contents → Made → Type 0
-MadeAsPromised W H c m = InsertPromise W H c (m .lent) (m .answer) (m .tree) (m .numbers)
+MadeAsPromised W H c (insert m) = InsertPromise W H c (m .lent) (m .answer) (m .tree) (m .numbers)
 
 -- "After an accepted insertion the table is the tree output up to the returned length, with the coefficients written;
 -- after a refused one it is the table that was read."
 abbrev pub leftBy : Contents → Made → Contents
-leftBy c m = left c (lengthAnswer (m .answer)) (m .tree) (m .numbers)
+leftBy c (insert m) = left c (lengthAnswer (m .answer)) (m .tree) (m .numbers)
 
 -- What the exact reading at a point answers before a list that starts from the table c, and after it.
 pub record ReadingStays (W H : ℕ) (c : Contents) (u v : ℕ) (before after : Answer ℤ) : Type 0 where

@@ -1,2 +1,5 @@
 pub mod Promises
 pub mod DemandThree
+pub mod LinkedPromises
+pub mod LinkedDemandThree
+pub mod LinkedBench

@@ -1,24 +1,23 @@
 -- The causes and the outcome of `fresh`, and the slice of a fresh table.
-use mathlib.Core.Path.{_≡_, refl, sym, ap, ap₂, _∙_, subst}
-use mathlib.Core.Bool.{Bool, not, _&&_}
+use mathlib.Core.Path.{_≡_, refl, sym, ap, ap₂, _∙_}
+use mathlib.Core.Bool.{not, _&&_}
 use mathlib.Core.List.{List, [], _∷_, _++_, append-nil}
-use Prim.Native.Nat.{ℕ, zero, suc, _+_, _-_, _*_, _≤_, _<_}
+use Prim.Native.Nat.{ℕ, _+_, _-_, _*_, _≤_, _<_}
 use native.Mathlib.Nat.{mul-comm}
 use native.Mathlib.Omega.{arith}
-use borrow.Author.Tests.{ltb-false, eqb-true}
-use lib.Dec.{ltb, eqb}
+use lib.Dec.{ltb}
 use lib.IntN.{ℤ, pos, natAbs}
 use lib.ListN.{length, take, drop, replicate, length-replicate, replicate-append-replicate}
 use lib.Seq.{length-take-le, take-length, drop-length, take-at, drop-at}
 use Rattle.finite.specs.Range.{grid}
 use Rattle.finite.proofs.Table.{grid-const}
+use Rattle.finite.proofs.Tests.{both}
 use Rattle.surface.specs.Sheet.{goodSide, functions}
 use Rattle.surface.specs.Table.{cause, _orElse_, places, slots, limit, sliceFrom, sliceOf}
-use Rattle.surface.specs.Calls.{Answer, refused, gives, answer, afterwards, put, lengthCause, treeOutCause}
-use Rattle.surface.specs.Calls.{freshCause, freshCoefficients, freshOutcome}
-use Rattle.surface.proofs.Least.{both}
-use Rattle.surface.proofs.TableLaws.{orElse-none, cause-none, good-side}
-use Rattle.surface.proofs.Refusals.{cause-off}
+use Rattle.surface.specs.Calls.{outputsCause, freshCause, freshCoefficients}
+use Rattle.surface.proofs.Refusals.{outputs}
+use Rattle.surface.proofs.TableLaws.{good-side}
+use Rattle.surface.proofs.Causes.{orElse-none, cause-none}
 use Rattle.coefficients.proofs.Sizes.{starts}
 
 -- ---- the slice
@@ -74,60 +73,14 @@ module _ (k : ℕ) (number : ℤ) where
       ap₂ _++_ front
       (ap₂ _++_ new (ap₂ drop l back ∙ drop-length zs) ∙ append-nil (replicate (length zs) (pos 0)))
 
--- ---- the cause, by its tests
+-- ---- what holds where no cause applies
 
-abbrev pub fresh : Bool → Bool → Bool → Bool → ℕ
-fresh g p n t = cause 1 (not g) orElse cause 10 p orElse cause 16 (not n) orElse cause 17 t
-
-module _ (W H : ℕ) (number : ℤ) (tree : List ℕ) (numbers : List ℤ) where
-  pub fresh-by : (g p n t : Bool) → g ≡ (goodSide W && goodSide H) → p ≡ ltb (limit 0) (natAbs number)
-      → n ≡ eqb (length numbers) (slots W H) → t ≡ ltb (length tree) 1
-      → fresh g p n t ≡ freshCause W H number tree numbers
-  fresh-by g p n t e q r s =
-      ap (λ g. fresh g p n t) e
-      ∙ ap (λ p. fresh (goodSide W && goodSide H) p n t) q
-      ∙ ap₂ (fresh (goodSide W && goodSide H) (ltb (limit 0) (natAbs number))) r s
-
-  -- no cause
-  pub fresh-none : 0 ≡ freshCause W H number tree numbers
-      → (W ≤ 8) × (H ≤ 8) × (length numbers ≡ slots W H) × (0 < length tree)
-  fresh-none e =
-      let c10 = cause 10 (ltb (limit 0) (natAbs number)) in
-      let c16 = lengthCause (slots W H) numbers in
-      let c17 = treeOutCause (0 ∷ []) tree in
-      let e1 = orElse-none (cause 1 (not (goodSide W && goodSide H))) (c10 orElse c16 orElse c17) (sym e) in
-      let e10 = orElse-none c10 (c16 orElse c17) (e1 .1) in
-      let e16 = orElse-none c16 c17 (e10 .1) in
-      let sides = both (goodSide W) (goodSide H) (cause-none 0 (goodSide W && goodSide H) (e1 .0)) in (
-        good-side W (sides .0) .1,
-        good-side H (sides .1) .1,
-        eqb-true (length numbers) (slots W H) (cause-none 15 (eqb (length numbers) (slots W H)) (e16 .0)),
-        ltb-false (length tree) 1 (cause-off 16 (ltb (length tree) 1) (e16 .1)),
-      )
-
-  -- ---- the outcome
-
-  pub fresh-refused : (c : ℕ) → c ≡ freshCause W H number tree numbers → (c ≡ 0 → ⊥)
-      → (refused c ≡ (freshOutcome W H number tree numbers) .result)
-      × (tree ≡ (freshOutcome W H number tree numbers) .tree)
-      × (numbers ≡ (freshOutcome W H number tree numbers) .numbers)
-  unfolding freshOutcome
-  fresh-refused c e h =
-      subst (λ k. (_≡_ {A = Answer ℕ} (refused c) (answer k 1)) × (tree ≡ afterwards k tree (put (0 ∷ []) tree))
-      × (numbers ≡ afterwards k numbers (sliceOf W H (freshCoefficients number)))) e (go c h)
-    where
-      go : (c : ℕ) → (c ≡ 0 → ⊥)
-          → (_≡_ {A = Answer ℕ} (refused c) (answer c 1)) × (tree ≡ afterwards c tree (put (0 ∷ []) tree))
-          × (numbers ≡ afterwards c numbers (sliceOf W H (freshCoefficients number)))
-      go zero h = absurd (h refl)
-      go (suc c) h = (refl, refl, refl)
-
-  pub fresh-done : (t : List ℕ) (n : List ℤ) → 0 ≡ freshCause W H number tree numbers → t ≡ 0 ∷ drop 1 tree
-      → n ≡ sliceOf W H (freshCoefficients number)
-      → (gives 1 ≡ (freshOutcome W H number tree numbers) .result)
-      × (t ≡ (freshOutcome W H number tree numbers) .tree)
-      × (n ≡ (freshOutcome W H number tree numbers) .numbers)
-  unfolding freshOutcome
-  fresh-done t n e p q =
-      subst (λ k. (_≡_ {A = Answer ℕ} (gives 1) (answer k 1)) × (t ≡ afterwards k tree (put (0 ∷ []) tree))
-      × (n ≡ afterwards k numbers (sliceOf W H (freshCoefficients number)))) e (refl, p, q)
+pub fresh-none : (W H : ℕ) (number : ℤ) (tree : List ℕ) (numbers : List ℤ) → freshCause W H number tree numbers ≡ 0
+    → (W ≤ 8) × (H ≤ 8) × (length numbers ≡ slots W H) × (0 < length tree)
+fresh-none W H number tree numbers e =
+    let c10 = cause 10 (ltb (limit 0) (natAbs number)) in
+    let last = outputsCause W H (0 ∷ []) tree numbers in
+    let e1 = orElse-none (cause 1 (not (goodSide W && goodSide H))) (c10 orElse last) e in
+    let out = outputs W H (0 ∷ []) tree numbers (orElse-none c10 last (e1 .1) .1) in
+    let sides = both (goodSide W) (goodSide H) (cause-none 0 (goodSide W && goodSide H) (e1 .0)) in
+    (good-side W (sides .0) .1, good-side H (sides .1) .1, out .1, out .0)

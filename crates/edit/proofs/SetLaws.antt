@@ -1,5 +1,5 @@
 -- The causes and the outcome of `set`.
-use mathlib.Core.Path.{_≡_, refl, sym, ap, ap₂, _∙_, subst}
+use mathlib.Core.Path.{_≡_, refl, sym, ap, ap₂, _∙_}
 use mathlib.Core.Bool.{Bool, true, false, not, _&&_, and-false}
 use mathlib.Core.List.{List, [], _∷_, _++_}
 use Prim.Native.Nat.{ℕ, zero, suc, _+_, _-_, _*_, _≤_, _<_}
@@ -10,13 +10,13 @@ use lib.IntN.{ℤ, natAbs}
 use lib.ListN.{length, set, take, drop, take-append-drop}
 use lib.Seq.{set-append-left}
 use Rattle.finite.proofs.Table.{place-below}
+use Rattle.finite.proofs.Tests.{both}
 use Rattle.surface.specs.Sheet.{functions}
 use Rattle.surface.specs.Support.{active}
 use Rattle.surface.specs.Table.{cause, _orElse_, levels, places, start, slots, place, limit, tableCause}
-use Rattle.surface.specs.Calls.{Answer, refused, gives, answer, afterwards, indexFits, index, setCause, setOutcome}
-use Rattle.surface.proofs.Least.{both}
-use Rattle.surface.proofs.TableLaws.{orElse-none, orElse-first, cause-none, sound, sides}
-use Rattle.surface.proofs.Refusals.{cause-off}
+use Rattle.surface.specs.Calls.{indexFits, index, setCause}
+use Rattle.surface.proofs.TableLaws.{sound, sides}
+use Rattle.surface.proofs.Causes.{orElse-none, cause-none, cause-off}
 use Rattle.coefficients.proofs.Parts.{part, part-length}
 
 -- ---- the function can be set, by the tests of its indices
@@ -82,10 +82,6 @@ pub table-none : (W H : ℕ) (t : List ℕ) (cs : List ℤ) → 0 ≡ tableCause
     → (0 < W) × (W ≤ 8) × (0 < H) × (H ≤ 8)
 table-none W H t cs e = sides (sound W H t cs (sym e))
 
--- by the first five causes and the tests of the level, the function and the number
-abbrev pub chain : ℕ → Bool → Bool → Bool → ℕ
-chain r l s p = r orElse cause 8 l orElse cause 9 (not s) orElse cause 10 p
-
 -- what `set` needs of its arguments where no cause applies
 pub record Settable (W H : ℕ) (cs : List ℤ) (L : ℕ) (i j : ℤ) : Type 0 where
   pub side-W : W ≤ 8
@@ -98,20 +94,6 @@ pub record Settable (W H : ℕ) (cs : List ℤ) (L : ℕ) (i j : ℤ) : Type 0 w
 module _ (W H : ℕ) (t : List ℕ) (cs : List ℤ) (L : ℕ) (i j number : ℤ) where
   abbrev fit : Bool
   fit = indexFits W L i && indexFits H L j && active W H (levels t) L (index i) (index j)
-
-  pub set-table : (r : ℕ) → r ≡ tableCause W H t cs → (r ≡ 0 → ⊥) → r ≡ setCause W H t cs L i j number
-  unfolding setCause
-  set-table r e h =
-      orElse-first r (chain 0 (ltb 3 L) fit (ltb (limit L) (natAbs number))) h
-      ∙ ap (λ r. chain r (ltb 3 L) fit (ltb (limit L) (natAbs number))) e
-
-  pub set-by : (l s p : Bool) → 0 ≡ tableCause W H t cs → l ≡ ltb 3 L → s ≡ fit
-      → p ≡ ltb (limit L) (natAbs number) → chain 0 l s p ≡ setCause W H t cs L i j number
-  unfolding setCause
-  set-by l s p e f q r =
-      ap (λ k. chain k l s p) e
-      ∙ ap (λ l. chain (tableCause W H t cs) l s p) f
-      ∙ ap₂ (chain (tableCause W H t cs) (ltb 3 L)) q r
 
   -- no cause
   pub set-none : 0 ≡ setCause W H t cs L i j number → Settable W H cs L i j
@@ -135,28 +117,3 @@ module _ (W H : ℕ) (t : List ℕ) (cs : List ℤ) (L : ℕ) (i j number : ℤ)
         first = k .0;
         second = k .1;
       }
-
-  -- ---- the outcome
-
-  pub set-refused : (c : ℕ) → c ≡ setCause W H t cs L i j number → (c ≡ 0 → ⊥)
-      → (refused c ≡ (setOutcome W H t cs L i j number) .result)
-      × (cs ≡ (setOutcome W H t cs L i j number) .after)
-  unfolding setOutcome
-  set-refused c e h =
-      subst (λ k. (_≡_ {A = Answer (Unit {0})} (refused c) (answer k tt))
-      × (cs ≡ afterwards k cs (set cs (place W H L (index i) (index j)) number))) e (go c h)
-    where
-      go : (c : ℕ) → (c ≡ 0 → ⊥)
-          → (_≡_ {A = Answer (Unit {0})} (refused c) (answer c tt))
-          × (cs ≡ afterwards c cs (set cs (place W H L (index i) (index j)) number))
-      go zero h = absurd (h refl)
-      go (suc c) h = (refl, refl)
-
-  pub set-done : (n : List ℤ) → 0 ≡ setCause W H t cs L i j number
-      → n ≡ set cs (place W H L (index i) (index j)) number
-      → (gives tt ≡ (setOutcome W H t cs L i j number) .result)
-      × (n ≡ (setOutcome W H t cs L i j number) .after)
-  unfolding setOutcome
-  set-done n e p =
-      subst (λ k. (_≡_ {A = Answer (Unit {0})} (gives tt) (answer k tt))
-      × (n ≡ afterwards k cs (set cs (place W H L (index i) (index j)) number))) e (refl, p)

@@ -3,48 +3,28 @@ ghost use mathlib.Core.Path.{_≡_};
 ghost use mathlib.Core.Bool.{true, _&&_};
 ghost use mathlib.Core.List.{_++_};
 ghost use Prim.Native.Nat.{_+_, _-_, _*_, _≤_, _<_};
-ghost use lib.Dec.{ltb};
-ghost use lib.IntN.{pos, natAbs};
+ghost use lib.IntN.{pos};
 ghost use lib.ListN as ListN;
 ghost use lib.ListN.{length, replicate};
 ghost use Rattle.surface.specs.Sheet.{functions};
 ghost use Rattle.surface.specs.Support.{active};
-ghost use Rattle.surface.specs.Table.{limit};
-ghost use Rattle.surface.specs.Calls.{freshCause, freshOutcome, indexFits, setCause, setOutcome};
+ghost use Rattle.surface.specs.Calls.{TableMeets, freshCause, freshOutcome, SliceMeets};
+ghost use Rattle.surface.specs.Calls.{indexFits, setCause, setOutcome};
 ghost use Rattle.surface.specs.Calls as Calls;
 ghost use Rattle.rows.specs.Rows.{levelsOf, Nested};
 ghost use Rattle.answers.specs.Answers.{lengthAnswer, outcomeAnswer};
-
-// Whether a number is past its level's limit, above or below.
-fn past(number: i64, level: usize) -> bool
-    requires { ⌜ level ≤ 3 ⌝ }
-    ensures { λ r. ⌜ r ≡ ltb (limit level) (natAbs number) ⌝ }
-{
-    let limit = coefficients::limit(level);
-    if limit < number {
-        return true;
-    }
-    number < 0 - limit
-}
 
 // The lowest cause that refuses a fresh table, or 0.
 fn fresh_cause(w: usize, h: usize, number: i64, tree: &[u8], numbers: &[i64]) -> u8
     ensures { λ r. ⌜ r ≡ freshCause w h number (now (tree .entry)) (now (numbers .entry)) ⌝ }
 {
-    if coefficients::good_sides(w, h) {
-        if past(number, 0) {
-            return 10;
-        }
-        let slots = coefficients::start(w, h, 4);
-        if numbers.len() != slots {
-            return 16;
-        }
-        if tree.len() < 1 {
-            return 17;
-        }
-        return 0;
+    if !coefficients::good_sides(w, h) {
+        return 1;
     }
-    1
+    if coefficients::past(number, coefficients::limit(0)) {
+        return 10;
+    }
+    coefficients::outputs_cause(w, h, 1, tree, numbers)
 }
 
 // One number at the first places of a slice, and 0 at the others.
@@ -65,12 +45,8 @@ pub fn fresh(
     tree_out: &mut [u8],
     numbers_out: &mut [i64],
 ) -> answers::Length
-    ensures { λ r. ⌜ (lengthAnswer r
-        ≡ (freshOutcome w h number (now («tree_out» .entry)) (now («numbers_out» .entry))) .result)
-        × (now («tree_out» .exit)
-        ≡ (freshOutcome w h number (now («tree_out» .entry)) (now («numbers_out» .entry))) .tree)
-        × (now («numbers_out» .exit)
-        ≡ (freshOutcome w h number (now («tree_out» .entry)) (now («numbers_out» .entry))) .numbers) ⌝ }
+    ensures { λ r. ⌜ TableMeets (freshOutcome w h number (now («tree_out» .entry)) (now («numbers_out» .entry)))
+        (lengthAnswer r) (now («tree_out» .exit)) (now («numbers_out» .exit)) ⌝ }
 {
     let cause = fresh_cause(w, h, number, tree_out, numbers_out);
     if cause != 0 {
@@ -152,7 +128,7 @@ fn set_cause(
         return 8;
     }
     if settable(&rows, w, h, level, i, j) {
-        if past(number, level) {
+        if coefficients::past(number, coefficients::limit(level)) {
             return 10;
         }
         return 0;
@@ -180,10 +156,8 @@ pub fn set(
     j: i64,
     number: i64,
 ) -> answers::Outcome
-    ensures { λ r. ⌜ (outcomeAnswer r
-        ≡ (setOutcome w h (now (tree .entry)) (now (numbers .entry)) level i j number) .result)
-        × (now (numbers .exit)
-        ≡ (setOutcome w h (now (tree .entry)) (now (numbers .entry)) level i j number) .after) ⌝ }
+    ensures { λ r. ⌜ SliceMeets (setOutcome w h (now (tree .entry)) (now (numbers .entry)) level i j number)
+        (outcomeAnswer r) (now (numbers .exit)) ⌝ }
 {
     let cause = set_cause(w, h, tree, numbers, level, i, j, number);
     if cause != 0 {

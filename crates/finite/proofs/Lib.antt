@@ -7,3 +7,6 @@ pub mod Sum
 pub mod Table
 pub mod Tests
 pub mod Weighted
+pub mod Signed
+pub mod Minima
+pub mod Written

@@ -53,6 +53,12 @@ module _ {A : Type 0} where
       ap₂ _∷_ (rw (add-zero i) at (h 0 (zero-lt-suc n)))
       (table-cong (suc i) n f g (λ k l. rw (suc-add i k, ← add-suc i k) (h (suc k) (suc-le-suc l))))
 
+  -- a table of one value
+  pub table-const : (i n : ℕ) (x : A) → tableFrom i n (λ k. x) ≡ replicate n x
+  unfolding tableFrom
+  table-const i zero x = refl
+  table-const i (suc n) x = ap (λ l. x ∷ l) (table-const (suc i) n x)
+
   -- ---- grids, from a row j on
 
   length-rows : (j n m : ℕ) (f : ℕ → ℕ → A) → length (rowsFrom j n m f) ≡ m * n

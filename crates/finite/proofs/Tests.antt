@@ -1,10 +1,13 @@
 -- Laws of tests, counts and totals over the numbers 0 to n - 1, and of tests over a grid.
-use mathlib.Core.Path.{_≡_, refl, sym, ap₂}
+use mathlib.Core.Path.{_≡_, refl, sym, ap₂, subst}
+use native.Mathlib.Numerals.{add-one}
 use mathlib.Core.Bool.{Bool, true, false, _&&_, cond, and-eq-true-iff}
 use Prim.Native.Nat.{ℕ, zero, suc, _+_, _≤_, _<_}
 use native.Mathlib.Nat.{le-step, lt-suc-self, not-suc-le-zero, le-refl}
 use native.Mathlib.Decide.{decLt}
 use native.Mathlib.Omega.{arith}
+use lib.Dec.{ltb}
+use borrow.Author.Tests.{ltb-true, lt-ltb}
 use Rattle.finite.specs.Range.{every, every2, count, total}
 
 -- two tests are equal when each holds as the other does
@@ -12,6 +15,26 @@ pub same-test : (s t : Bool) → (s ≡ true → t ≡ true) → (t ≡ true →
 same-test true t f g = sym (f refl)
 same-test false true f g = g refl
 same-test false false f g = refl
+
+-- ---- tests that are conjunctions
+
+pub both : (a b : Bool) → (a && b) ≡ true → (a ≡ true) × (b ≡ true)
+both true b e = (refl, e)
+both false b e = absurd (subst lib.Dec.T (sym e) tt)
+
+pub and-intro : (a b : Bool) → a ≡ true → b ≡ true → (a && b) ≡ true
+and-intro a b p q = rw (p, q)
+
+-- two orders tested together
+pub lts-true : (a b c d : ℕ) → (ltb a b && ltb c d) ≡ true → (a < b) × (c < d)
+lts-true a b c d e = (ltb-true a b (both (ltb a b) (ltb c d) e .0), ltb-true c d (both (ltb a b) (ltb c d) e .1))
+
+pub lts-intro : (a b c d : ℕ) → a < b → c < d → (ltb a b && ltb c d) ≡ true
+lts-intro a b c d p q = and-intro (ltb a b) (ltb c d) (lt-ltb a b p) (lt-ltb c d q)
+
+pub pick : (b : Bool) (P : Bool → Type 0) → (b ≡ true → P true) → (b ≡ false → P false) → P b
+pick true P t f = t refl
+pick false P t f = f refl
 
 -- ---- tests that hold everywhere
 
@@ -52,12 +75,32 @@ module _ (n m : ℕ) where
 
 -- ---- totals
 
+pub total-none : (f : ℕ → ℕ) → 0 ≡ total 0 f
+unfolding total
+total-none f = refl
+
+pub total-more : (n k x : ℕ) (f : ℕ → ℕ) → k ≡ total n f → x ≡ f n → k + x ≡ total (n + 1) f
+unfolding total
+total-more n k x f e h = rw (add-one n) (ap₂ _+_ e h)
+
 pub total-cong : (n : ℕ) (f g : ℕ → ℕ) → ((k : ℕ) → k < n → f k ≡ g k) → total n f ≡ total n g
 unfolding total
 total-cong zero f g h = refl
 total-cong (suc n) f g h = ap₂ _+_ (total-cong n f g (λ k l. h k (le-step l))) (h n (lt-suc-self n))
 
 -- ---- counts
+
+pub count-none : (p : ℕ → Bool) → 0 ≡ count 0 p
+unfolding count
+count-none p = refl
+
+pub count-one : (n k : ℕ) (p : ℕ → Bool) → k ≡ count n p → p n ≡ true → k + 1 ≡ count (n + 1) p
+unfolding count
+count-one n k p e h = rw (add-one n, h, e)
+
+pub count-same : (n k : ℕ) (p : ℕ → Bool) → k ≡ count n p → p n ≡ false → k ≡ count (n + 1) p
+unfolding count
+count-same n k p e h = rw (add-one n, h) (omega arith)
 
 pub count-cong : (n : ℕ) (p q : ℕ → Bool) → ((k : ℕ) → k < n → p k ≡ q k) → count n p ≡ count n q
 unfolding count

@@ -1,2 +1,1 @@
-pub mod InsertLaws
 pub mod NewTableLaws

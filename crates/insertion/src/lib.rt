@@ -1,33 +1,35 @@
-// The insertion of a box: reads one table and writes another.
+// The insertion of a box: reads one table and writes another. What is read is judged apart from the outputs, and the
+// new tree is made apart from the carrying.
 ghost use mathlib.Core.Path.{_≡_};
-ghost use mathlib.Core.List.{List};
-ghost use Prim.Native.Nat.{ℕ};
+ghost use Prim.Native.Nat.{_≤_};
+ghost use lib.ListN.{length};
+ghost use Rattle.surface.specs.Table.{slots, sliceOf};
+ghost use Rattle.surface.specs.Calls.{TableMeets, refinementCause};
 ghost use Rattle.demands.specs.Promises.{InsertPromise};
-ghost use Rattle.rows.specs.Rows.{levelRows};
-ghost use Rattle.quadtree.specs.Visit.{boxOf};
+ghost use Rattle.rows.specs.Rows.{levelRows, Nested};
+ghost use Rattle.boxes.specs.Boxes.{boxOf};
+ghost use Rattle.carry.specs.Carried.{CarriedFit};
 ghost use Rattle.answers.specs.Answers.{lengthAnswer};
-ghost use Rattle.insertion.specs.Inserted.{causeTo16, Insertable, Inserts};
+ghost use Rattle.insertion.specs.Refined.{overRows, refinedOutcome};
 
-// The lowest of causes 1 to 16 that refuses an insertion, or 0, with the regions where none does.
-fn insert_cause(
+// The lowest cause of the table, the box and the level, or 0 with the table's regions.
+fn refinement_cause(
     w: usize,
     h: usize,
     tree: &[u8],
     cs: &[i64],
-    a: quadtree::visit::Area,
+    b: boxes::Box,
     level: usize,
-    numbers_out: &[i64],
     rows: &mut [u32; 96],
 ) -> u8
-    ensures { λ r. ⌜ (r ≡ causeTo16 w h (now (tree .entry)) (now (cs .entry)) (boxOf a) level
-        (now («numbers_out» .entry)))
+    ensures { λ r. ⌜ (r ≡ refinementCause w h (now (tree .entry)) (now (cs .entry)) (boxOf b) level)
         × (r ≡ 0 → now (rows .exit) ≡ levelRows (now (tree .entry))) ⌝ }
 {
     let refusal = table::cause::check(w, h, tree, cs, rows);
     if refusal != 0 {
         return refusal;
     }
-    let past = table::cause::box_cause(w, h, a);
+    let past = table::cause::box_cause(w, h, b);
     if past != 0 {
         return past;
     }
@@ -37,36 +39,45 @@ fn insert_cause(
     if 3 < level {
         return 8;
     }
-    if numbers_out.len() != coefficients::start(w, h, 4) {
-        return 16;
-    }
     0
 }
 
-// Inserts where no cause up to 16 applies: 17 is judged once the new tree is known, and nothing is written before.
-fn insert_box(
+// Carries coefficients over from one table's regions to finer ones: carried values, and 0 at passive places.
+fn carry_over(cs: &[i64], rows: &[u32; 96], new: &[u32; 96], w: usize, h: usize, out: &mut [i64])
+    requires { ⌜ (w ≤ 8) × (h ≤ 8) × (length (now cs) ≡ slots w h) × (length (now out) ≡ slots w h)
+        × Nested (now rows) × Nested (now new) × CarriedFit w h (now rows) (now cs) ⌝ }
+    ensures { λ _. ⌜ now (out .exit)
+        ≡ sliceOf w h (overRows w h (now (rows .entry)) (now (new .entry)) (now (cs .entry))) ⌝ }
+{
+    carry::fill(cs, rows, w, h, out);
+    passive::clear(out, new, w, h);
+}
+
+// Writes a table over new regions, whose tree is given, if both outputs have their lengths.
+fn write_refined(
     w: usize,
     h: usize,
     cs: &[i64],
     rows: &[u32; 96],
-    a: quadtree::visit::Area,
-    level: usize,
+    new: &[u32; 96],
+    tree: &[u8],
     tree_out: &mut [u8],
     numbers_out: &mut [i64],
 ) -> answers::Length
-    requires { ⌜ ((t : List ℕ) × Insertable w h t (now cs) (boxOf a) level (now «numbers_out») (now rows)) ⌝ }
-    ensures { λ r. ⌜ Inserts w h (now (rows .entry)) (now (cs .entry)) (boxOf a) level (now («tree_out» .entry))
-        (now («numbers_out» .entry)) (lengthAnswer r) (now («tree_out» .exit)) (now («numbers_out» .exit)) ⌝ }
+    requires { ⌜ (w ≤ 8) × (h ≤ 8) × (length (now cs) ≡ slots w h)
+        × Nested (now rows) × Nested (now new) × CarriedFit w h (now rows) (now cs) ⌝ }
+    ensures { λ r. ⌜ TableMeets
+        (refinedOutcome w h (now (rows .entry)) (now (new .entry)) (now (cs .entry)) (now (tree .entry))
+        (now («tree_out» .entry)) (now («numbers_out» .entry)))
+        (lengthAnswer r) (now («tree_out» .exit)) (now («numbers_out» .exit)) ⌝ }
 {
-    let mut new = *rows;
-    let mut built = [0u8; 1365];
-    let n = regions::insert::insert(&mut new, a, level, &mut built);
-    if tree_out.len() < n {
-        return answers::Length::Refused(17);
+    let n = tree.len();
+    let late = coefficients::outputs_cause(w, h, n, tree_out, numbers_out);
+    if late != 0 {
+        return answers::Length::Refused(late);
     }
-    buffers::put(&built[0..n], tree_out);
-    carry::values::carry_all(cs, rows, w, h, numbers_out);
-    carry::clear::clear_passive(numbers_out, &new, w, h);
+    fields::put(tree, tree_out, 0);
+    carry_over(cs, rows, new, w, h, numbers_out);
     answers::Length::Bytes(n)
 }
 
@@ -95,10 +106,13 @@ pub fn insert(
         (now («tree_out» .exit)) (now («numbers_out» .exit)) ⌝ }
 {
     let mut rows = [0u32; 96];
-    let a = quadtree::visit::Area { u0, v0, u1, v1 };
-    let cause = insert_cause(w, h, tree, cs, a, level, numbers_out, &mut rows);
+    let b = boxes::Box { u0, v0, u1, v1 };
+    let cause = refinement_cause(w, h, tree, cs, b, level, &mut rows);
     if cause != 0 {
         return answers::Length::Refused(cause);
     }
-    insert_box(w, h, cs, &rows, a, level, tree_out, numbers_out)
+    let mut new = rows;
+    let mut built = [0u8; 1365];
+    let n = regions::insert(&mut new, b, level, &mut built);
+    write_refined(w, h, cs, &rows, &new, &built[0..n], tree_out, numbers_out)
 }

@@ -6,9 +6,9 @@ ghost use Rattle.surface.specs.Table.{tableCause};
 ghost use Rattle.surface.specs.Calls.{leastOutcome, activityOutcome, freshOutcome, setOutcome};
 ghost use Rattle.surface.specs.Calls.{exactOutcome, displayOutcome, costOutcome};
 ghost use Rattle.surface.specs.TableFile.{fileOutcome};
-ghost use Rattle.kiln.specs.Codes.{codeOf, NumberTold, LeastTold, WattsAfter};
-ghost use Rattle.kiln.specs.Codes.{SliceWritten, TableWritten, FileWritten};
-ghost use Rattle.kiln.specs.Promises.{KilnInsertPromise, KilnExactPromise};
+ghost use Rattle.answers.specs.Codes.{codeOf, NumberTold, LeastTold, WattsAfter};
+ghost use Rattle.answers.specs.Codes.{SliceWritten, TableWritten, FileWritten};
+ghost use Rattle.demands.specs.LinkedPromises.{KilnInsertPromise, KilnExactPromise};
 
 // The least level under a box: `level` receives it, `visited` the number of tree nodes visited.
 #[no_mangle]

@@ -1,205 +1,190 @@
--- What each judged field says of the file's contents, one law for each way out of the judging functions.
-use mathlib.Core.Path.{_≡_, sym, ap, _∙_, subst}
-use mathlib.Core.Bool.{true, false, not, _&&_, and-false}
+-- What the judged parts say of the file, one law for each way out of the judging functions.
+use mathlib.Core.Path.{_≡_, sym, ap, ap₂, _∙_, subst, fun-ext}
+use mathlib.Core.Bool.{Bool, true, not, cond}
 use mathlib.Core.List.{List, [], _++_}
-use Prim.Native.Nat.{ℕ, suc, _+_, _-_, _*_, _≤_, _<_}
+use Prim.Native.Nat.{ℕ, zero, suc, _+_, _-_, _*_, _≤_, _<_}
+use native.Mathlib.Nat.{zero-add, suc-add}
 use native.Mathlib.Numerals.{add-one}
-use native.Mathlib.Decide.{decLt}
 use native.Mathlib.Omega.{arith}
-use borrow.Author.Tests.{eq-eqb, ne-eqb, lt-leb, le-leb}
-use lib.Dec.{leb, eqb}
-use lib.IntN.{ℤ}
-use lib.ListN.{length, getD, take, drop}
+use lib.Dec.{eqb}
+use lib.IntN.{ℤ, pos}
+use lib.ListN.{length, drop}
 use lib.Seq.{getD-drop, getD-take}
-use Rattle.surface.specs.Sheet.{goodSide}
-use Rattle.surface.specs.Table.{cause, treeOf, formed, levels}
-use Rattle.surface.specs.TableFile as TableFile
-use Rattle.surface.specs.TableFile.{faulty, body, lengthAt, field, File, declined, fileOr}
-use Rattle.surface.specs.TableFile.{activeCount, allWithin, levelFields, fileContents}
-use Rattle.surface.proofs.Least.{both}
+use Rattle.finite.specs.Range.{count, total, grid}
+use Rattle.finite.proofs.Tests.{both}
+use Rattle.surface.specs.Sheet.{goodSide, functions}
+use Rattle.surface.specs.Support.{active, activeInRow, activeCount, activeBefore}
+use Rattle.surface.specs.Table.{cause, levels, limit}
+use Rattle.surface.specs.Fields.{declined, unless, holds, inPart, field, checked, numberAt, allWithin}
+use Rattle.surface.specs.TableFile.{sidesIn, goodSides, sidesField, levelLoaded, levelField, levelFields}
+use Rattle.surface.specs.TableFile.{fileContents}
+use Rattle.surface.proofs.Least.{leastUnder-cong}
 use Rattle.surface.proofs.TableLaws.{good-side}
-use Rattle.rows.specs.Rows.{levelRows}
-use Rattle.loading.specs.declared.field.Field as F
-use Rattle.loading.specs.declared.field.Field.{Field}
-use Rattle.loading.specs.Fields.{between, bodyAt, fieldAt, ends}
-use Rattle.loading.specs.Levels.{levelLoaded}
-use Rattle.loading.specs.Judged.{sheetW, sheetH, treeIn, Head, headJudged, levelJudged, levelsJudged}
-
--- ---- an exact length is one between itself and itself
-
-exact : (n m : ℕ) → eqb n m ≡ between m m n
-exact n m = go (decLt n m) (decLt m n)
-  where
-    go : Dec (n < m) → Dec (m < n) → eqb n m ≡ between m m n
-    go (yes l) g = rw (ne-eqb n m (λ e. omega arith), lt-leb m n l)
-    go (no l) (yes g) = rw (ne-eqb n m (λ e. omega arith), lt-leb n m g, and-false (leb m n))
-    go (no l) (no g) =
-        rw (eq-eqb n m (omega arith), le-leb m n (omega arith), le-leb n m (omega arith))
-
-exact-field : (tag m : ℕ) (s : List ℕ) → field tag (λ n. eqb n m) s ≡ field tag (between m m) s
-unfolding field
-exact-field tag m s = rw (exact (lengthAt s) m)
-
--- the field that a result stands for, once the result is known
-known : (file : List ℕ) (at : ℕ) {r s : Field} {x : TableFile.Field} → r ≡ s → fieldAt r file at ≡ x
-    → fieldAt s file at ≡ x
-known file at q e = sym (ap (λ r. fieldAt r file at) q) ∙ e
+use Rattle.fields.specs.declared.Field as F
+use Rattle.fields.specs.declared.Field.{Field}
+use Rattle.fields.specs.Positions.{bodyAt, partAt, ends}
+use Rattle.fields.proofs.PositionLaws.{checked-faulty, checked-told}
+use Rattle.rows.specs.Rows.{levelsOf, levelRows}
+use Rattle.rows.proofs.RowLaws.{rows-nested, level-rows}
+use Rattle.loading.specs.Judged.{sheetW, sheetH, sidesOf, treeIn, treeJudged, headJudged, endsAt, judgedAs}
 
 -- ---- the sides
 
--- the field of the sides is whole, and both are good
-pub record Sides (file : List ℕ) : Type 0 where
-  pub sides : field 1 (λ n. eqb n 2) file ≡ body (take 2 (drop 3 file)) (drop 5 file)
-  pub good : (goodSide (sheetW file) && goodSide (sheetH file)) ≡ true
+module _ (file : List ℕ) (r : Field) (e : partAt r file (bodyAt file 0) ≡ field 1 2 2 file) where
+  pub sides-faulty : (rows : List ℕ) (c : ℕ) → r ≡ F.the-variants.Faulty c → headJudged r file rows
+  unfolding fileContents sidesField
+  sides-faulty rows c q =
+      let k = checked-faulty 1 2 2 1 (λ b. goodSides (sidesIn b)) sidesIn file 0 r e c q in
+      subst (λ r. headJudged r file rows) (sym q) (rw k)
 
-module _ (file : List ℕ) where
-  first-side : getD (take 2 (drop 3 file)) 0 0 ≡ sheetW file
-  first-side = getD-take 2 (drop 3 file) 0 0 (omega arith) ∙ getD-drop 3 file 0 0
+  module _ (end : ℕ) (q : r ≡ F.the-variants.Body end) (k : ends r file 0 2 2) where
+    pub sides-size : (end ≡ 5) × (5 ≤ length file)
+    sides-size =
+        let b : ends (F.the-variants.Body end) file 0 2 2 = subst (λ r. ends r file 0 2 2) q k in
+        (omega (arith, b .0, b .1), omega (arith, b .0, b .2))
 
-  second-side : getD (take 2 (drop 3 file)) 1 0 ≡ sheetH file
-  second-side = getD-take 2 (drop 3 file) 1 0 (omega arith) ∙ getD-drop 3 file 1 0
+    sides-here : sidesIn (bodyAt file 0 end) ≡ sidesOf file
+    sides-here =
+        ap (λ n. sidesIn (bodyAt file 0 n)) (sides-size .0)
+        ∙ ap₂ (λ W H. record { W = W; H = H })
+        (getD-take 2 (drop 3 file) 0 0 (omega arith) ∙ getD-drop 3 file 0 0)
+        (getD-take 2 (drop 3 file) 1 0 (omega arith) ∙ getD-drop 3 file 1 0)
 
-  module _ (r : Field) (e : fieldAt r file 0 ≡ field 1 (between 2 2) file) where
-    pub sides-faulty : (rows : List ℕ) (n : ℕ) → r ≡ F.the-variants.Faulty n → headJudged r file rows
-    unfolding fileContents
-    sides-faulty rows n q =
-        let f : faulty n ≡ field 1 (between 2 2) file = known file 0 q e in
-        let c : fileContents file ≡ declined n = rw (exact-field 1 2 file, ← f) in
-        subst (λ r. headJudged r file rows) (sym q) c
+    -- by the test of both
+    pub sides-told : (t : Bool) → t ≡ goodSides (sidesOf file)
+        → sidesField file ≡ unless (cause 1 (not t)) (holds (sidesOf file) (drop 5 file))
+    unfolding sidesField
+    sides-told t u =
+        checked-told 1 2 2 1 (λ b. goodSides (sidesIn b)) sidesIn file 0 r e end q t
+        (u ∙ ap goodSides (sym sides-here))
+        ∙ ap₂ (λ s n. unless (cause 1 (not t)) (holds s (drop n file))) sides-here (sides-size .0)
 
-    module _ (end : ℕ) (q : r ≡ F.the-variants.Body end) (k : ends r file 0 2 2) where
-      pub sides-size : (end ≡ 5) × (5 ≤ length file)
-      sides-size =
-          let b : ends (F.the-variants.Body end) file 0 2 2 = subst (λ r. ends r file 0 2 2) q k in
-          (omega (arith, b .0, b .1), omega (arith, b .0, b .2))
+pub sides-bad : (file : List ℕ) → sidesField file ≡ declined 1 → fileContents file ≡ declined 1
+unfolding fileContents
+sides-bad file e = rw e
 
-      found : field 1 (λ n. eqb n 2) file ≡ body (take 2 (drop 3 file)) (drop 5 file)
-      found =
-          exact-field 1 2 file
-          ∙ sym (known file 0 q e)
-          ∙ ap (λ end. body (bodyAt file 0 end) (drop end file)) (sides-size .0)
+pub small-sides : (file : List ℕ) → goodSides (sidesOf file) ≡ true → (sheetW file ≤ 8) × (sheetH file ≤ 8)
+small-sides file e =
+    let k = both (goodSide (sheetW file)) (goodSide (sheetH file)) e in
+    (good-side (sheetW file) (k .0) .1, good-side (sheetH file) (k .1) .1)
 
-      pub sides-good : true ≡ (goodSide (sheetW file) && goodSide (sheetH file)) → Sides file
-      sides-good u = record { sides = found; good = sym u }
+-- ---- the levels by the rows of a tree
 
-      pub sides-bad : false ≡ (goodSide (sheetW file) && goodSide (sheetH file)) → fileContents file ≡ declined 1
-      unfolding fileContents
-      sides-bad u = rw (found, first-side, second-side, ← u)
+module _ (t rows : List ℕ) (e : rows ≡ levelRows t) (W H : ℕ) (hW : W ≤ 8) (hH : H ≤ 8) where
+  -- the active functions by the rows are those by the tree
+  same-active : (L : ℕ)
+      → _≡_ {A = ℕ → ℕ → Bool} (λ a b. active W H (levelsOf rows) L a b) (λ a b. active W H (levels t) L a b)
+  same-active L =
+      fun-ext λ a. fun-ext λ b. ap (λ v. eqb v L)
+      (leastUnder-cong W H (levelsOf rows) (levels t)
+      (λ q r hq hr. ap (λ m. levelsOf m q r) e ∙ level-rows t q r (omega arith) (omega arith)) L a b)
 
--- ---- the tree after them
+  same-level : (L : ℕ) (s : List ℕ) → levelField W H (levelsOf rows) L s ≡ levelField W H (levels t) L s
+  unfolding levelField activeCount activeBefore activeInRow
+  same-level L s =
+      ap (λ p.
+      let n = total (functions H L) (λ b. count (functions W L) (λ a. p a b)) in
+      checked (field (16 + L) (5 * n) (5 * n) s) 4 (allWithin (limit L) n) λ body.
+      grid (functions W L) (functions H L) λ a b.
+      cond (p a b)
+      (numberAt body (total b (λ r. count (functions W L) (λ c. p c r)) + count a (λ c. p c b))) (pos 0))
+      (same-active L)
 
-pub small-sides : (file : List ℕ) → Sides file → (sheetW file ≤ 8) × (sheetH file ≤ 8)
-small-sides file s =
-    let g = both (goodSide (sheetW file)) (goodSide (sheetH file)) (s .good) in
-    (good-side (sheetW file) (g .0) .1, good-side (sheetH file) (g .1) .1)
+  same-levels : (n : ℕ) (s : List ℕ) → levelFields W H (levelsOf rows) n s ≡ levelFields W H (levels t) n s
+  unfolding levelFields
+  same-levels zero s = cc
+  same-levels (suc L) s =
+      ap₂ (λ j f. inPart j λ before rest. inPart (f rest) λ numbers rest2. holds (before ++ numbers) rest2)
+      (same-levels L s) (fun-ext (same-level L))
 
-module _ (file : List ℕ) (s : Sides file) (r : Field)
-    (e : fieldAt r file 5 ≡ field 2 (between 1 1365) (drop 5 file)) where
-  pub tree-faulty : (rows : List ℕ) (n : ℕ) → r ≡ F.the-variants.Faulty n → headJudged r file rows
-  unfolding fileContents
-  tree-faulty rows n q =
-      let f : faulty n ≡ field 2 (between 1 1365) (drop 5 file) = known file 5 q e in
-      let c : fileContents file ≡ declined n = rw (s .sides, first-side file, second-side file, s .good, ← f) in
-      subst (λ r. headJudged r file rows) (sym q) c
+-- ---- both fields
 
-  module _ (end : ℕ) (q : r ≡ F.the-variants.Body end) (k : ends r file 5 1 1365) where
-    pub tree-size : (8 ≤ end) × (end ≤ length file)
-    tree-size =
-        let b : ends (F.the-variants.Body end) file 5 1 1365 = subst (λ r. ends r file 5 1 1365) q k in
-        (omega (arith, b .0), b .2)
-
-    here : fileContents file
-        ≡ fileOr (cause 2 (not (formed (sheetW file) (sheetH file) (treeOf (treeIn file end)))))
-        (levelFields (sheetW file) (sheetH file) (treeIn file end) 4 0 [] (drop end file))
-    unfolding fileContents
-    here =
-        let f : body (bodyAt file 5 end) (drop end file) ≡ field 2 (between 1 1365) (drop 5 file) =
-        known file 5 q e in
-        rw (s .sides, first-side file, second-side file, s .good, ← f)
-
-    pub tree-good : (rows : List ℕ) → true ≡ formed (sheetW file) (sheetH file) (treeOf (treeIn file end))
-        → rows ≡ levelRows (treeIn file end) → Head file end (sheetW file) (sheetH file) rows
-    tree-good rows u painted =
-        let small = small-sides file s in
-        record {
-          small-W = small .0;
-          small-H = small .1;
-          low = tree-size .0;
-          size = tree-size .1;
-          painted = painted;
-          contents = here ∙ rw (← u);
-        }
-
-    pub tree-bad : false ≡ formed (sheetW file) (sheetH file) (treeOf (treeIn file end))
-        → fileContents file ≡ declined 2
-    tree-bad u = here ∙ rw (← u)
+pub head-told : (file rows : List ℕ) → goodSides (sidesOf file) ≡ true
+    → sidesField file ≡ holds (sidesOf file) (drop 5 file) → (r : Field)
+    → treeJudged r file (sheetW file) (sheetH file) rows → headJudged r file rows
+unfolding fileContents
+head-told file rows g s (F.the-variants.Faulty c) k = rw (s, k)
+head-told file rows g s (F.the-variants.Body end) k =
+    let small = small-sides file g in
+    record {
+      small-W = small .0;
+      small-H = small .1;
+      low = k .0;
+      size = k .1;
+      inside = k .1;
+      nested = rw (k .2) (rows-nested (levels (treeIn file end)));
+      contents =
+          rw (
+            s,
+            k .3,
+            ← same-levels (treeIn file end) rows (k .2) (sheetW file) (sheetH file) (small .0) (small .1) 4
+                (drop end file),
+          );
+    }
 
 -- ---- a level
 
-module _ (file : List ℕ) (at W H L : ℕ) (t : List ℕ) (r : Field) (m : ℕ)
-    (e : fieldAt r file at ≡ field (16 + L) (between (5 * m) (5 * m)) (drop at file))
-    (s : m ≡ activeCount W H (levels t) L) (n : ℕ) (before : List ℤ) where
-  due : fieldAt r file at ≡ field (16 + L) (λ k. eqb k (5 * activeCount W H (levels t) L)) (drop at file)
-  due =
-      e
-      ∙ sym (exact-field (16 + L) (5 * m) (drop at file))
-      ∙ ap (λ m. field (16 + L) (λ k. eqb k (5 * m)) (drop at file)) s
+module _ (W H : ℕ) (lev : ℕ → ℕ → ℕ) (L : ℕ) (file : List ℕ) (at : ℕ) (r : Field) (n : ℕ)
+    (s : n ≡ activeCount W H lev L)
+    (e : partAt r file (bodyAt file at) ≡ field (16 + L) (5 * n) (5 * n) (drop at file)) where
+  -- the field with its contents, by the count that was found
+  by-count : checked (field (16 + L) (5 * n) (5 * n) (drop at file)) 4 (allWithin (limit L) n) (levelLoaded W H lev L)
+      ≡ levelField W H lev L (drop at file)
+  unfolding levelField
+  by-count = rw s
 
-  pub level-faulty : (c : ℕ) → r ≡ F.the-variants.Faulty c
-      → levelFields W H t (suc n) L before (drop at file) ≡ declined c
-  unfolding levelFields
+  pub level-faulty : (c : ℕ) → r ≡ F.the-variants.Faulty c → judgedAs r file (levelField W H lev L (drop at file))
   level-faulty c q =
-      let f : faulty c ≡ field (16 + L) (λ k. eqb k (5 * activeCount W H (levels t) L)) (drop at file) =
-      known file at q due in
-      rw (← f)
+      subst (λ r. judgedAs r file (levelField W H lev L (drop at file))) (sym q)
+      (sym by-count
+      ∙ checked-faulty (16 + L) (5 * n) (5 * n) 4 (allWithin (limit L) n) (levelLoaded W H lev L) file at r e c q)
 
-  module _ (end : ℕ) (q : r ≡ F.the-variants.Body end) where
-    level-here : levelFields W H t (suc n) L before (drop at file)
-        ≡ fileOr (cause 4 (not (allWithin L (activeCount W H (levels t) L) (bodyAt file at end))))
-        (levelFields W H t n (suc L) (before ++ levelLoaded W H (levels t) L (bodyAt file at end)) (drop end file))
-    unfolding levelFields
-    level-here =
-        let f : body (bodyAt file at end) (drop end file)
-        ≡ field (16 + L) (λ k. eqb k (5 * activeCount W H (levels t) L)) (drop at file) =
-        known file at q due in
-        rw (← f)
+  -- by the test of its numbers
+  pub level-told : (end : ℕ) → r ≡ F.the-variants.Body end → (t : Bool)
+      → t ≡ allWithin (limit L) n (bodyAt file at end)
+      → levelField W H lev L (drop at file)
+      ≡ unless (cause 4 (not t)) (holds (levelLoaded W H lev L (bodyAt file at end)) (drop end file))
+  level-told end q t u =
+      sym by-count
+      ∙ checked-told (16 + L) (5 * n) (5 * n) 4 (allWithin (limit L) n) (levelLoaded W H lev L) file at r e end q t u
 
-    pub level-good : true ≡ allWithin L m (bodyAt file at end)
-        → levelFields W H t (suc n) L before (drop at file)
-        ≡ levelFields W H t n (suc L) (before ++ levelLoaded W H (levels t) L (bodyAt file at end)) (drop end file)
-    level-good u = level-here ∙ rw (← s, ← u)
+-- ---- level after level
 
-    pub level-bad : false ≡ allWithin L m (bodyAt file at end)
-        → levelFields W H t (suc n) L before (drop at file) ≡ declined 4
-    level-bad u = level-here ∙ rw (← s, ← u)
+module _ (W H : ℕ) (lev : ℕ → ℕ → ℕ) (s : List ℕ) where
+  pub levels-none : levelFields W H lev 0 s ≡ holds [] s
+  unfolding levelFields
+  levels-none = cc
 
--- one level more
-pub levels-next : (file : List ℕ) (at end W H L : ℕ) (t : List ℕ) (x : File) (before new : List ℤ) → L < 4
-    → x ≡ levelFields W H t (4 - L) L before (drop at file)
-    → ((n : ℕ) (before : List ℤ) → levelFields W H t (suc n) L before (drop at file)
-    ≡ levelFields W H t n (suc L) (before ++ new) (drop end file))
-    → x ≡ levelFields W H t (4 - (L + 1)) (L + 1) (before ++ new) (drop end file)
-levels-next file at end W H L t x before new h e step =
-    e
-    ∙ ap (λ n. levelFields W H t n L before (drop at file)) (omega arith)
-    ∙ step (4 - (L + 1)) before
-    ∙ ap (λ M. levelFields W H t (4 - (L + 1)) M (before ++ new) (drop end file)) (sym (add-one L))
+  pub levels-next : (L : ℕ) (before numbers : List ℤ) (mid rest : List ℕ) → levelFields W H lev L s ≡ holds before mid
+      → levelField W H lev L mid ≡ holds numbers rest → levelFields W H lev (L + 1) s ≡ holds (before ++ numbers) rest
+  unfolding levelFields
+  levels-next L before numbers mid rest e h = rw (add-one L, e, h)
 
--- a faulty level
-pub levels-faulty : (file : List ℕ) (from at W H L : ℕ) (t : List ℕ) (r : Field) (c : ℕ) → L < 4
-    → (before : List ℤ)
-    → levelFields W H t 4 0 [] (drop from file) ≡ levelFields W H t (4 - L) L before (drop at file)
-    → r ≡ F.the-variants.Faulty c → levelJudged r file at W H L t → levelsJudged r file from W H t
-levels-faulty file from at W H L t r c h before e q j =
-    let step : levelJudged (F.the-variants.Faulty c) file at W H L t =
-    subst (λ r. levelJudged r file at W H L t) q j in
-    let last : levelFields W H t 4 0 [] (drop from file) ≡ declined c =
-    e ∙ ap (λ n. levelFields W H t n L before (drop at file)) (omega arith) ∙ step (4 - (L + 1)) before in
-    subst (λ r. levelsJudged r file from W H t) (sym q) last
+  declined-on : (c k L : ℕ) → levelFields W H lev L s ≡ declined c → levelFields W H lev (k + L) s ≡ declined c
+  unfolding levelFields
+  declined-on c zero L e = rw (zero-add L) e
+  declined-on c (suc k) L e = rw (suc-add k L, declined-on c k L e)
 
--- all four
-pub levels-done : (file : List ℕ) (from at W H L : ℕ) (t : List ℕ) (before : List ℤ) → L ≡ 4
-    → levelFields W H t 4 0 [] (drop from file) ≡ levelFields W H t (4 - L) L before (drop at file)
-    → levelFields W H t 4 0 [] (drop from file) ≡ levelFields W H t 0 4 before (drop at file)
-levels-done file from at W H L t before h e =
-    e ∙ ap (λ L. levelFields W H t (4 - L) L before (drop at file)) h
+  declined-next : (L c : ℕ) (before : List ℤ) (mid : List ℕ) → levelFields W H lev L s ≡ holds before mid
+      → levelField W H lev L mid ≡ declined c → levelFields W H lev (suc L) s ≡ declined c
+  unfolding levelFields
+  declined-next L c before mid e f = rw (e, f)
+
+  -- the level at a position, judged after those below it: all four are declined with it, or one more stands
+  module _ (file : List ℕ) (at L : ℕ) (k : endsAt file at (levelFields W H lev L s)) (r : Field)
+      (j : judgedAs r file (levelField W H lev L (drop at file))) where
+    known : (q : Field) → r ≡ q → judgedAs q file (levelField W H lev L (drop at file))
+    known q e = subst (λ r. judgedAs r file (levelField W H lev L (drop at file))) e j
+
+    pub levels-faulty : (c : ℕ) → r ≡ F.the-variants.Faulty c → L < 4 → judgedAs r file (levelFields W H lev 4 s)
+    levels-faulty c q h =
+        let all : 3 - L + suc L ≡ 4 = omega arith in
+        subst (λ r. judgedAs r file (levelFields W H lev 4 s)) (sym q)
+        (subst (λ n. levelFields W H lev n s ≡ declined c) all
+        (declined-on c (3 - L) (suc L)
+        (declined-next L c (k .1 .0) (drop at file) (k .1 .1) (known (F.the-variants.Faulty c) q))))
+
+    pub levels-good : (end : ℕ) → r ≡ F.the-variants.Body end → endsAt file end (levelFields W H lev (L + 1) s)
+    levels-good end q =
+        let b : endsAt file end (levelField W H lev L (drop at file)) = known (F.the-variants.Body end) q in
+        (b .0, (_, levels-next L (k .1 .0) (b .1 .0) (drop at file) (drop end file) (k .1 .1) (b .1 .1)))

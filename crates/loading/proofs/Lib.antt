@@ -1,5 +1,3 @@
-pub mod FieldLaws
-pub mod NumberLaws
 pub mod LevelLaws
 pub mod JudgeLaws
 pub mod FileLaws

@@ -1,20 +1,16 @@
--- The coefficients that a body holds for the functions of a row and of a level.
-use mathlib.Core.Bool.{Bool, cond}
+-- The rows of a level: the numbers of its body before a row, and the coefficients of the row.
 use mathlib.Core.List.{List}
-use Prim.Native.Nat.{ℕ, _+_}
-use lib.IntN.{ℤ, pos}
-use Rattle.finite.specs.Range.{count, tableFrom, grid}
+use Prim.Native.Nat.{ℕ}
+use lib.IntN.{ℤ}
+use Rattle.finite.specs.Range.{total, tableFrom}
 use Rattle.surface.specs.Sheet.{functions}
-use Rattle.surface.specs.TableFile.{numberAt, loaded}
+use Rattle.surface.specs.Support.{activeInRow}
+use Rattle.surface.specs.TableFile.{loaded}
 
--- the coefficient at place a of a row: the places with a test take the numbers of a body from `next` on, the others 0
-abbrev pub rowLoadedAt : (ℕ → Bool) → List ℕ → ℕ → ℕ → ℤ
-rowLoadedAt p body next a = cond (p a) (numberAt body (next + count a p)) (pos 0)
+-- the active functions of the rows below b
+abbrev pub rowsBefore : ℕ → ℕ → (ℕ → ℕ → ℕ) → ℕ → ℕ → ℕ
+rowsBefore W H lev L b = total b (λ r. activeInRow W H lev L r)
 
--- those of n places
-abbrev pub rowLoaded : (ℕ → Bool) → List ℕ → ℕ → ℕ → List ℤ
-rowLoaded p body next n = tableFrom 0 n (rowLoadedAt p body next)
-
--- the coefficients of a level
-abbrev pub levelLoaded : ℕ → ℕ → (ℕ → ℕ → ℕ) → ℕ → List ℕ → List ℤ
-levelLoaded W H lev L body = grid (functions W L) (functions H L) (λ a c. loaded W H lev L body a c)
+-- the coefficients of row b
+abbrev pub rowLoaded : ℕ → ℕ → (ℕ → ℕ → ℕ) → ℕ → List ℕ → ℕ → List ℤ
+rowLoaded W H lev L body b = tableFrom 0 (functions W L) (λ a. loaded W H lev L body a b)

@@ -1,52 +1,73 @@
-// The judgement of a file in byte order. Nothing is written but the rows of the regions.
-use super::field::Field;
-use super::field::field_at;
+// The judgement of a file in byte order, part by part. Nothing is written but the rows of the regions.
+use fields::Field;
 ghost use mathlib.Core.Path.{_≡_};
-ghost use mathlib.Core.List.{List};
-ghost use Prim.Native.Nat.{ℕ, _≤_};
-ghost use lib.ListN.{length};
-ghost use Rattle.rows.specs.Rows.{levelRows, Nested};
-ghost use Rattle.loading.specs.Judged.{headJudged};
-ghost use Rattle.loading.specs.Judged.{inFile, levelJudged, levelsJudged};
+ghost use Prim.Native.Nat.{_≤_};
+ghost use lib.ListN.{length, drop};
+ghost use Rattle.surface.specs.TableFile.{levelField, levelFields, endCause};
+ghost use Rattle.rows.specs.Rows.{levelsOf, Nested};
+ghost use Rattle.loading.specs.Judged.{treeJudged, headJudged, judgedAs};
 
-// The fields of the sides and of the tree with what is in them, and the position after them.
+// "tag 1, W and H, a byte each; tag 2, the tree; tags 16 to 19, the active coefficients of levels 0 to 3"
+const SIDES_TAG: u8 = 1;
+
+const TREE_TAG: u8 = 2;
+
+const LEVEL_TAG: u8 = 16;
+
+pub const LEVELS: usize = 4;
+
+// The bytes of the sides.
+const SIDES: usize = 2;
+
+// "Tag 2's length is 1 to 1,365."
+const LONGEST_TREE: usize = 1365;
+
+// The field of the tree, on a sheet with these sides, and the rows of its regions.
+fn tree_judge(file: &[u8], w: usize, h: usize, rows: &mut [u32; 96]) -> Field
+    requires { ⌜ (w ≤ 8) × (h ≤ 8) × (5 ≤ length (now file)) ⌝ }
+    ensures { λ r. ⌜ treeJudged r (now (file .entry)) w h (now (rows .exit)) ⌝ }
+{
+    let f = fields::field_at(file, super::TREE_FIELD, TREE_TAG, 1, LONGEST_TREE);
+    let Field::Body(end) = f else {
+        return f;
+    };
+    if quadtree::walk::regions(&file[super::TREE..end], w, h, rows) {
+        return f;
+    }
+    Field::Faulty(2)
+}
+
+// The fields of the sides and of the tree, and the position after them.
 pub fn head_judge(file: &[u8], rows: &mut [u32; 96]) -> Field
     ensures { λ r. ⌜ headJudged r (now (file .entry)) (now (rows .exit)) ⌝ }
 {
-    let sides = field_at(file, 0, 1, 2, 2);
+    let sides = fields::field_at(file, 0, SIDES_TAG, SIDES, SIDES);
     let Field::Body(_) = sides else {
         return sides;
     };
-    let w = file[3] as usize;
-    let h = file[4] as usize;
+    let w = file[super::W] as usize;
+    let h = file[super::H] as usize;
     if !coefficients::good_sides(w, h) {
         return Field::Faulty(1);
     }
-    let tree = field_at(file, 5, 2, 1, 1365);
-    let Field::Body(end) = tree else {
-        return tree;
-    };
-    if !quadtree::walk::regions(&file[8..end], w, h, rows) {
-        return Field::Faulty(2);
-    }
-    tree
+    tree_judge(file, w, h, rows)
 }
 
 // The field of a level, and the coefficients in it.
 fn level_judge(file: &[u8], at: usize, rows: &[u32; 96], w: usize, h: usize, level: usize) -> Field
     requires { ⌜ (w ≤ 8) × (h ≤ 8) × (level ≤ 3) × (at ≤ length (now file)) × Nested (now rows) ⌝ }
-    ensures { λ r. ⌜ inFile r (now (file .entry)) × ((t : List ℕ) → now (rows .entry) ≡ levelRows t
-        → levelJudged r (now (file .entry)) at w h level t) ⌝ }
+    ensures { λ r. ⌜ judgedAs r (now (file .entry))
+        (levelField w h (levelsOf (now (rows .entry))) level (drop at (now (file .entry)))) ⌝ }
 {
     let count = activity::count::active_count(rows, w, h, level);
-    let n = 5 * count;
-    let tag = 16 + level as u8;
-    let f = field_at(file, at, tag, n, n);
+    let n = fields::number::SIZE * count;
+    let f = fields::field_at(file, at, LEVEL_TAG + level as u8, n, n);
     let Field::Body(end) = f else {
         return f;
     };
-    let body = at + 3;
-    if super::number::within(&file[body..end], count, level) {
+    let body = at + fields::HEAD;
+    let most = coefficients::limit(level) as usize;
+    if fields::number::within(&file[body..end], count, most) {
         return f;
     }
     Field::Faulty(4)
@@ -55,12 +76,12 @@ fn level_judge(file: &[u8], at: usize, rows: &[u32; 96], w: usize, h: usize, lev
 // The fields of the levels from a position on, and the position after them.
 pub fn levels_judge(file: &[u8], from: usize, rows: &[u32; 96], w: usize, h: usize) -> Field
     requires { ⌜ (w ≤ 8) × (h ≤ 8) × (from ≤ length (now file)) × Nested (now rows) ⌝ }
-    ensures { λ r. ⌜ inFile r (now (file .entry)) × ((t : List ℕ) → now (rows .entry) ≡ levelRows t
-        → levelsJudged r (now (file .entry)) from w h t) ⌝ }
+    ensures { λ r. ⌜ judgedAs r (now (file .entry))
+        (levelFields w h (levelsOf (now (rows .entry))) 4 (drop from (now (file .entry)))) ⌝ }
 {
     let mut at = from;
     let mut level = 0;
-    while level < 4 {
+    while level < LEVELS {
         let f = level_judge(file, at, rows, w, h, level);
         let Field::Body(end) = f else {
             return f;
@@ -69,4 +90,15 @@ pub fn levels_judge(file: &[u8], from: usize, rows: &[u32; 96], w: usize, h: usi
         level += 1;
     }
     Field::Body(at)
+}
+
+// What follows the levels, from a position on: 15, or 0 for no cause.
+pub fn end_cause(file: &[u8], at: usize) -> u8
+    requires { ⌜ at ≤ length (now file) ⌝ }
+    ensures { λ r. ⌜ r ≡ endCause (drop at (now (file .entry))) ⌝ }
+{
+    if at < file.len() {
+        return 15;
+    }
+    0
 }

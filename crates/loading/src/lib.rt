@@ -1,38 +1,51 @@
 // The call that reads a table file: judged whole in byte order first, then written.
-mod bytes;
-mod field;
 mod judge;
 mod load;
-mod number;
 
-use field::Field;
+use fields::Field;
 ghost use mathlib.Core.Path.{_≡_};
 ghost use Prim.Native.Nat.{_≤_};
-ghost use lib.ListN.{length};
-ghost use Rattle.surface.specs.TableFile.{fileOutcome};
+ghost use lib.ListN.{drop};
+ghost use Rattle.surface.specs.Calls.{TableMeets};
+ghost use Rattle.surface.specs.TableFile.{levelFields, fileOutcome};
 ghost use Rattle.answers.specs.Answers.{fileAnswer};
-ghost use Rattle.loading.specs.Judged.{sheetW, sheetH, treeIn, Head, levelsEnd, lastly, Reads};
+ghost use Rattle.rows.specs.Rows.{levelsOf};
+ghost use Rattle.loading.specs.Judged.{sheetW, sheetH, Head, endsAt, lastly, Reads};
 
-// "after the last field 15, 16, 17": by the bytes left, the lengths of the outputs and those due.
-fn last_cause(extra: usize, numbers: usize, slots: usize, room: usize, bytes: usize) -> u8
-    ensures { λ r. ⌜ r ≡ lastly extra numbers slots room bytes ⌝ }
+// Where the sides stand in a file: after the first head.
+pub const W: usize = fields::HEAD;
+
+pub const H: usize = W + 1;
+
+// Where the tree's field stands: after that of the sides; and the tree, after its head.
+pub const TREE_FIELD: usize = H + 1;
+
+const TREE: usize = TREE_FIELD + fields::HEAD;
+
+// "after the last field 15, 16, 17": the cause by what follows the levels, then those of the outputs.
+fn last_cause(
+    after: u8,
+    w: usize,
+    h: usize,
+    bytes: usize,
+    tree_out: &[u8],
+    numbers_out: &[i64],
+) -> u8
+    requires { ⌜ (w ≤ 8) × (h ≤ 8) ⌝ }
+    ensures { λ r. ⌜ r ≡ lastly after w h bytes (now («tree_out» .entry)) (now («numbers_out» .entry)) ⌝ }
 {
-    if 0 < extra {
-        return 15;
+    let late = coefficients::outputs_cause(w, h, bytes, tree_out, numbers_out);
+    if after != 0 {
+        return after;
     }
-    if numbers != slots {
-        return 16;
-    }
-    if room < bytes {
-        return 17;
-    }
-    0
+    late
 }
 
-// Writes the outputs, if no last cause applies: the tree ends at `end`, the last field at `last`.
+// Writes the outputs, if no last cause applies: the tree ends at `end`, the levels stand from `from` to `last`.
 fn fill(
     file: &[u8],
     end: usize,
+    from: usize,
     last: usize,
     rows: &[u32; 96],
     w: usize,
@@ -40,25 +53,19 @@ fn fill(
     tree_out: &mut [u8],
     numbers_out: &mut [i64],
 ) -> answers::File
-    requires { ⌜ Head (now file) end w h (now rows) × (last ≤ length (now file))
-        × levelsEnd (now file) end last w h (treeIn (now file) end) ⌝ }
+    requires { ⌜ Head (now file) end from w h (now rows)
+        × endsAt (now file) last (levelFields w h (levelsOf (now rows)) 4 (drop from (now file))) ⌝ }
     ensures { λ r. ⌜ Reads (now (file .entry)) (now («tree_out» .entry)) (now («numbers_out» .entry)) r
         (now («tree_out» .exit)) (now («numbers_out» .exit)) ⌝ }
 {
-    let bytes = end - 8;
-    let slots = coefficients::start(w, h, 4);
-    let cause = last_cause(
-        file.len() - last,
-        numbers_out.len(),
-        slots,
-        tree_out.len(),
-        bytes,
-    );
+    let bytes = end - TREE;
+    let after = judge::end_cause(file, last);
+    let cause = last_cause(after, w, h, bytes, tree_out, numbers_out);
     if cause != 0 {
         return answers::File::Refused(cause);
     }
-    buffers::put(&file[8..end], tree_out);
-    load::load_levels(file, end, rows, w, h, numbers_out);
+    fields::put(&file[TREE..end], tree_out, 0);
+    load::load_levels(file, from, rows, w, h, numbers_out);
     answers::File::Loaded {
         length: bytes,
         w,
@@ -66,40 +73,40 @@ fn fill(
     }
 }
 
-// Judges the fields of the levels, which start at `end`, and writes the outputs if no cause applies.
+// Judges the fields of the levels, which start at `from`, and writes the outputs if no cause applies. The tree ends
+// at `end`.
 fn read_levels(
     file: &[u8],
     end: usize,
+    from: usize,
     rows: &[u32; 96],
     tree_out: &mut [u8],
     numbers_out: &mut [i64],
 ) -> answers::File
-    requires { ⌜ Head (now file) end (sheetW (now file)) (sheetH (now file)) (now rows) ⌝ }
+    requires { ⌜ Head (now file) end from (sheetW (now file)) (sheetH (now file)) (now rows) ⌝ }
     ensures { λ r. ⌜ Reads (now (file .entry)) (now («tree_out» .entry)) (now («numbers_out» .entry)) r
         (now («tree_out» .exit)) (now («numbers_out» .exit)) ⌝ }
 {
-    let w = file[3] as usize;
-    let h = file[4] as usize;
-    let f = judge::levels_judge(file, end, rows, w, h);
+    let w = file[W] as usize;
+    let h = file[H] as usize;
+    let f = judge::levels_judge(file, from, rows, w, h);
     match f {
         Field::Faulty(c) => answers::File::Refused(c),
-        Field::Body(last) => fill(file, end, last, rows, w, h, tree_out, numbers_out),
+        Field::Body(last) => fill(file, end, from, last, rows, w, h, tree_out, numbers_out),
     }
 }
 
 // Reads a table file into a tree buffer and a coefficient slice, or refuses it and writes nothing.
 pub fn read_file(file: &[u8], tree_out: &mut [u8], numbers_out: &mut [i64]) -> answers::File
-    ensures { λ r. ⌜ (fileAnswer r
-        ≡ (fileOutcome (now (file .entry)) (now («tree_out» .entry)) (now («numbers_out» .entry))) .result)
-        × (now («tree_out» .exit)
-        ≡ (fileOutcome (now (file .entry)) (now («tree_out» .entry)) (now («numbers_out» .entry))) .tree)
-        × (now («numbers_out» .exit)
-        ≡ (fileOutcome (now (file .entry)) (now («tree_out» .entry)) (now («numbers_out» .entry))) .numbers) ⌝ }
+    ensures { λ r. ⌜ TableMeets
+        (fileOutcome (now (file .entry)) (now («tree_out» .entry)) (now («numbers_out» .entry)))
+        (fileAnswer r) (now («tree_out» .exit)) (now («numbers_out» .exit)) ⌝ }
 {
     let mut rows = [0u32; 96];
     let f = judge::head_judge(file, &mut rows);
     match f {
         Field::Faulty(c) => answers::File::Refused(c),
-        Field::Body(end) => read_levels(file, end, &rows, tree_out, numbers_out),
+        // The levels start where the tree's field ends.
+        Field::Body(end) => read_levels(file, end, end, &rows, tree_out, numbers_out),
     }
 }

@@ -1,7 +1,7 @@
 -- What the private functions compute.
 use mathlib.Core.Bool.{cond}
 use mathlib.Core.List.{List, [], _∷_}
-use Prim.Native.Nat.{ℕ, _+_, _≤_, _<_}
+use Prim.Native.Nat.{ℕ, _+_, _*_, _^_, _≤_, _<_}
 use lib.IntN.{ℤ, pos, natAbs, _+ℤ_, _*ℤ_}
 use lib.Dec.{eqb}
 use lib.ListN.{getD}
@@ -39,18 +39,26 @@ columnOf p l g = childrenOf g (entry p 0 l) (entry p 1 l) (entry p 2 l) (entry p
 unfoldable pub alongOf : List (List ℤ) → ℕ → List (List ℤ)
 alongOf p g = columnOf p 0 g ∷ columnOf p 1 g ∷ columnOf p 2 g ∷ columnOf p 3 g ∷ []
 
--- the four splines of a cell at r steps of 16
-abbrev pub splinesOf : ℕ → Splines
-splinesOf r =
-    record { a = pos (piece 0 r 16); b = pos (piece 1 r 16); c = pos (piece 2 r 16); d = pos (piece 3 r 16) }
+-- the four splines of a cell at r steps of n
+abbrev pub splinesOf : ℕ → ℕ → Splines
+splinesOf n r =
+    record { a = pos (piece 0 r n); b = pos (piece 1 r n); c = pos (piece 2 r n); d = pos (piece 3 r n) }
 
--- numbers that add up to at most as much as the splines do
-abbrev pub Weights : Splines → Type 0
-Weights w = natAbs (w .a) + natAbs (w .b) + natAbs (w .c) + natAbs (w .d) ≤ 24576
+-- what these add up to
+abbrev pub whole : ℕ → ℕ
+whole n = 6 * n ^ 3
+
+-- numbers that add up to at most t in size
+abbrev pub Weights : ℕ → Splines → Type 0
+Weights t w = natAbs (w .a) + natAbs (w .b) + natAbs (w .c) + natAbs (w .d) ≤ t
 
 -- four numbers of at most m in size
 abbrev pub Row : ℕ → List ℤ → Type 0
 Row m x = (k : ℕ) → k < 4 → natAbs (getD x k (pos 0)) ≤ m
+
+-- such weights and numbers, whose weighted sum fits
+abbrev pub Fit : Splines → List ℤ → Type 0
+Fit w x = (t : ℕ) × (m : ℕ) × Weights t w × Row m x × (t < 2 ^ 63) × (m < 2 ^ 63) × (t * m < 2 ^ 63)
 
 -- the weighted sum of four
 unfoldable pub weighed : Splines → List ℤ → ℤ

@@ -2,9 +2,9 @@
 // Entry [k][l] is that of the k-th function along u and the l-th along v.
 ghost use mathlib.Core.Path.{_≡_};
 ghost use Prim.Native.Nat.{_*_, _≤_, _<_};
-ghost use Rattle.patch.specs.Patches.{Bounded, Subdivided, Evaluated};
+ghost use Rattle.patch.specs.Patches.{Bounded, Subdivided, OfLevel, Evaluated};
 ghost use Rattle.patch.specs.Steps.{midway, Small, evenOf, oddOf, childrenOf, columnOf, alongOf};
-ghost use Rattle.patch.specs.Steps.{splinesOf, Weights, Row, weighed};
+ghost use Rattle.patch.specs.Steps.{splinesOf, Fit, weighed};
 
 // An even child, of two parents in a row.
 pub fn even(x: i64, y: i64) -> i64
@@ -66,7 +66,7 @@ pub fn subdivide(p: [[i64; 4]; 4], g: usize, h: usize) -> [[i64; 4]; 4]
     along(along(p, g), h)
 }
 
-// The four splines of a cell at a point, as whole numbers that add up to 24576.
+// The four splines of a cell at a point, as whole numbers.
 struct Splines {
     a: i64,
     b: i64,
@@ -76,18 +76,18 @@ struct Splines {
 
 // A product of three numbers of steps.
 fn triple(x: usize, y: usize, z: usize) -> usize
-    requires { ⌜ (x ≤ 16) × (y ≤ 16) × (z ≤ 16) ⌝ }
-    ensures { λ n. ⌜ (n ≡ x * y * z) × (n ≤ 4096) ⌝ }
+    requires { ⌜ (x ≤ 128) × (y ≤ 128) × (z ≤ 128) ⌝ }
+    ensures { λ n. ⌜ (n ≡ x * y * z) × (n ≤ 2097152) ⌝ }
 {
     x * y * z
 }
 
-// The splines at r steps into a cell of 16, with q steps left.
-fn splines_at(r: usize) -> Splines
-    requires { ⌜ r ≤ 16 ⌝ }
-    ensures { λ w. ⌜ w ≡ splinesOf r ⌝ }
+// The splines at r steps into a cell of n, with q steps left.
+fn splines_at(n: usize, r: usize) -> Splines
+    requires { ⌜ (r ≤ n) × (n ≤ 128) ⌝ }
+    ensures { λ w. ⌜ w ≡ splinesOf n r ⌝ }
 {
-    let q = 16 - r;
+    let q = n - r;
     let a = triple(q, q, q);
     let x = triple(r, r, q);
     let y = triple(r, q, q);
@@ -102,19 +102,19 @@ fn splines_at(r: usize) -> Splines
 
 // A weighted sum of four.
 fn weigh(w: Splines, x: [i64; 4]) -> i64
-    requires { ⌜ Weights w × Row 206158430208000 x ⌝ }
+    requires { ⌜ Fit w x ⌝ }
     ensures { λ z. ⌜ z ≡ weighed w x ⌝ }
 {
     w.a * x[0] + w.b * x[1] + w.c * x[2] + w.d * x[3]
 }
 
-// The patch of level 3 at the point r and s steps into its cell of 16.
-pub fn evaluate(p: [[i64; 4]; 4], r: usize, s: usize) -> i64
-    requires { ⌜ (r ≤ 16) × (s ≤ 16) × Bounded 8388608000 p ⌝ }
-    ensures { λ x. ⌜ Evaluated p r s x ⌝ }
+// The patch of a level with n steps to a cell, at the point r and s steps into its cell.
+pub fn evaluate(p: [[i64; 4]; 4], n: usize, r: usize, s: usize) -> i64
+    requires { ⌜ (r ≤ n) × (s ≤ n) × OfLevel n p ⌝ }
+    ensures { λ x. ⌜ Evaluated n p r s x ⌝ }
 {
-    let u = splines_at(r);
-    let v = splines_at(s);
+    let u = splines_at(n, r);
+    let v = splines_at(n, s);
     weigh(
         u,
         [

@@ -10,12 +10,13 @@ use lib.Dec.{leb, lit≤}
 use lib.IntN.{ℤ, pos, _*ℤ_}
 use lib.ListN.{length}
 use Rattle.finite.proofs.Sum.{sum2-cong}
+use Rattle.finite.proofs.Tests.{and-intro}
 use Rattle.surface.specs.Sheet.{eighths, onSheet}
 use Rattle.surface.specs.Spline.{cellOf, piece}
 use Rattle.surface.specs.Support.{leastUnder, inRegion}
 use Rattle.surface.specs.Patch.{subdivided, patch, patchReading}
 use Rattle.surface.specs.Table.{levels, coefficients, limit, slots, Acceptable, tableReading}
-use Rattle.surface.proofs.Least.{and-intro, leastUnder-cong}
+use Rattle.surface.proofs.Least.{leastUnder-cong}
 use Rattle.surface.proofs.SplineCell.{cell-inside}
 use Rattle.surface.proofs.PatchReading.{subdivided-cong}
 use Rattle.surface.proofs.TableLaws.{sound, sides}
@@ -125,7 +126,7 @@ module _ (W H : ℕ) (rows : List ℕ) (cs : List ℤ) (u v : ℕ) (given : Read
 
   -- the value of the level 3 patch is the reading
   pub reading-of : (a b : ℕ) (p : List (List ℤ)) (x : ℤ) → a ≡ cellOf W 3 u → b ≡ cellOf H 3 v
-      → PatchAt W H rows cs u v 3 p → Evaluated p (u - 16 * a) (v - 16 * b) x
+      → PatchAt W H rows cs u v 3 p → Evaluated 16 p (u - 16 * a) (v - 16 * b) x
       → x ≡ tableReading W H (given .2 .0) cs u v
   unfolding patchReading eighths
   reading-of a b p x ea eb at e =

@@ -23,5 +23,5 @@ pub fn reading_at(cs: &[i64], rows: &[u32; 96], w: usize, h: usize, u: usize, v:
     let p3 = step::finer(p2, cs, rows, w, h, 3, u, v);
     let a = cell::cell_of(w, 3, u);
     let b = cell::cell_of(h, 3, v);
-    patch::evaluate(p3, u - 16 * a, v - 16 * b)
+    patch::evaluate(p3, 16, u - 16 * a, v - 16 * b)
 }

@@ -1,136 +1,153 @@
--- Where a subtree of the form ends: what its first byte says, and the tree of the root's square.
-use mathlib.Core.Bool.{Bool, true, false, cond, false≢true}
+-- Where a tree of the form ends: past the slice, at a leaf, at a split by the ends of its children, and as a whole.
+use mathlib.Core.Bool.{Bool, true, false, not, cond}
 use mathlib.Core.List.{List, [], _∷_}
 use mathlib.Core.Path.{_≡_, refl, sym, ap, _∙_}
-use Prim.Native.Nat.{ℕ, _+_, _-_, _^_, _≤_, _<_}
-use native.Mathlib.Nat.{one-le-pow}
+use Prim.Native.Nat.{ℕ, suc, _+_, _-_, _^_, _≤_, _<_}
 use native.Mathlib.Decide.{decLt}
 use native.Mathlib.Omega.{arith}
 use lib.Dec.{eqb}
-use lib.ListN.{length, drop, getD, length-drop}
-use borrow.Author.Tests.{eq-eqb, ne-eqb}
-use Rattle.surface.specs.Quadtree.{Quadtree, leaf, bytes, Parsed, none, found, parse, wellFormed}
-use Rattle.surface.specs.Table.{treeOf, formed, regionsOf}
+use lib.ListN.{length, drop, getD, length-drop, drop-of-length-le}
+use borrow.Author.Tests.{eq-eqb, ne-eqb, lt-leb}
+use Rattle.surface.specs.Quadtree.{Quadtree, leaf, split, bytes, Parsed, none, found, andThen, parse, wellFormed}
+use Rattle.surface.specs.Table.{treeOf, formed}
 use Rattle.quadtree.specs.Subtree.{Subtree}
-use Rattle.quadtree.specs.End.{endOf, endOfParsed}
-use Rattle.quadtree.specs.declared.walk.End.{End}
-use Rattle.quadtree.specs.declared.walk.End.the-variants.{At, Bad}
-use Rattle.quadtree.proofs.SubtreeLaws.{parse-stands, subtree-inside, subtree-byte, leaf-subtree, subtree-leaf}
-use Rattle.quadtree.proofs.SubtreeLaws.{Split, subtree-split, tree-subtree}
-
--- The tree that ends at a position.
-pub record Ended (W H k x y : ℕ) (t : List ℕ) (at p : ℕ) : Type 0 where
-  pub tree : Quadtree
-  pub stands : Subtree k t at tree
-  pub form : wellFormed W H k x y tree ≡ true
-  pub end : p ≡ at + length (bytes tree)
+use Rattle.quadtree.specs.End.{nowhere, endOf, endOfParsed, equalBytes}
+use Rattle.quadtree.proofs.SubtreeLaws.{parse-stands, subtree-inside, subtree-bytes, leaf-subtree, from}
+use Rattle.quadtree.proofs.SubtreeLaws.{read-none, read-wrong, read-split, children, split-subtree}
+use Rattle.quadtree.proofs.SubtreeLaws.{split-length}
+use Rattle.quadtree.proofs.EqualLeaves.{equal-bytes}
 
 module _ (W H k x y : ℕ) (t : List ℕ) (at : ℕ) where
-  -- A tree of the form that stands there gives the end.
-  pub end-of-tree : (q : Quadtree) → Subtree k t at q → wellFormed W H k x y q ≡ true
-      → endOf W H k x y t at ≡ At (at + length (bytes q))
+  pub past-end : length t ≤ at → endOf W H k x y t at ≡ nowhere
   unfolding endOf
-  end-of-tree q s f = rw (s, f)
+  past-end past = rw (drop-of-length-le t past, read-none k)
 
-  -- If no tree of the form stands there, there is no end.
-  pub no-end : ((q : Quadtree) → Subtree k t at q → wellFormed W H k x y q ≡ true → ⊥) → endOf W H k x y t at ≡ Bad
+  -- The end is that of the tree that stands there.
+  pub tree-end : (q : Quadtree) → Subtree k t at q
+      → endOf W H k x y t at ≡ cond (wellFormed W H k x y q) (at + length (bytes q)) nowhere
   unfolding endOf
-  no-end none-there = go (parse k (drop at t)) refl
+  tree-end q s = rw s
+
+  -- A byte but that of a split, or a single quarter: by the form of the leaf.
+  pub leaf-end : at < length t → (getD t at 0 ≡ 4 → k ≡ 0)
+      → endOf W H k x y t at ≡ cond (wellFormed W H k x y (leaf (getD t at 0))) (at + 1) nowhere
+  unfolding endOf bytes wellFormed
+  leaf-end inside single = go (decLt 3 (getD t at 0))
     where
-      formless : (q : Quadtree) (b : Bool) → Subtree k t at q → wellFormed W H k x y q ≡ b
-          → cond b (At (at + length (bytes q))) Bad ≡ Bad
-      formless q true s f = absurd (none-there q s f)
-      formless q false s f = refl
+      go : Dec (3 < getD t at 0)
+          → endOf W H k x y t at ≡ cond (wellFormed W H k x y (leaf (getD t at 0))) (at + 1) nowhere
+      go (yes high) = rw (from t at inside, read-wrong k (getD t at 0) (drop (at + 1) t) high single, lt-leb _ _ high)
+      go (no low) = tree-end (leaf (getD t at 0)) (leaf-subtree k t at inside (omega arith))
 
-      go : (p : Parsed) → parse k (drop at t) ≡ p → endOfParsed W H k x y at p ≡ Bad
-      go none e = refl
-      go (found q rest) e = formless q (wellFormed W H k x y q) (parse-stands k t at q rest e) refl
+-- ---- a split
 
-  -- An end is that of a tree of the form.
-  pub ended : (p : ℕ) → endOf W H k x y t at ≡ At p → Ended W H k x y t at p
+module _ (W H j x y : ℕ) (t : List ℕ) (at : ℕ) (few : length t < nowhere) where
+  abbrev end-of : Parsed → ℕ
+  end-of = endOfParsed W H (suc j) x y at
+
+  -- Where the end is nowhere whatever is read, it is nowhere.
+  formless : (r : Parsed) (f : Quadtree → List ℕ → Parsed) → ((q : Quadtree) (s : List ℕ) → end-of (f q s) ≡ nowhere)
+      → end-of (andThen r f) ≡ nowhere
+  formless none f all = refl
+  formless (found q s) f all = all q s
+
+  -- One child is read, and f behind it: the end is g of the child's end.
+  child-end : (u v p : ℕ) (f : Quadtree → List ℕ → Parsed) (g : ℕ → ℕ) → g nowhere ≡ nowhere
+      → ((q : Quadtree) → Subtree j t p q → wellFormed W H j u v q ≡ true
+      → end-of (f q (drop (p + length (bytes q)) t)) ≡ g (p + length (bytes q)))
+      → ((q : Quadtree) (s : List ℕ) → wellFormed W H j u v q ≡ false → end-of (f q s) ≡ nowhere)
+      → end-of (andThen (parse j (drop p t)) f) ≡ g (endOf W H j u v t p)
   unfolding endOf
-  ended p e = go (parse k (drop at t)) refl e
+  child-end u v p f g none-on form wrong = go (parse j (drop p t)) refl
     where
-      formed-end : (q : Quadtree) (b : Bool) → Subtree k t at q → wellFormed W H k x y q ≡ b
-          → cond b (At (at + length (bytes q))) Bad ≡ At p → Ended W H k x y t at p
-      formed-end q true s f n = record { tree = q; stands = s; form = f; end = cc }
-      formed-end q false s f n = let z : _≡_ {A = ℕ} 0 1 = cc in absurd (omega arith)
+      by-form : (q : Quadtree) (b : Bool) → Subtree j t p q → wellFormed W H j u v q ≡ b
+          → end-of (f q (drop (p + length (bytes q)) t)) ≡ g (cond b (p + length (bytes q)) nowhere)
+      by-form q true s e = form q s e
+      by-form q false s e = wrong q _ e ∙ sym none-on
 
-      go : (r : Parsed) → parse k (drop at t) ≡ r → endOfParsed W H k x y at r ≡ At p → Ended W H k x y t at p
-      go none e n = let z : _≡_ {A = ℕ} 0 1 = cc in absurd (omega arith)
-      go (found q rest) e n = formed-end q (wellFormed W H k x y q) (parse-stands k t at q rest e) refl n
+      go : (r : Parsed) → parse j (drop p t) ≡ r → end-of (andThen r f) ≡ g (endOfParsed W H j u v p r)
+      go none e = sym none-on
+      go (found q s) e =
+          let stands = parse-stands j t p q s e in
+          let rest : s ≡ drop (p + length (bytes q)) t = cc in
+          rw rest (by-form q (wellFormed W H j u v q) stands refl)
 
--- The answer r is right for the square of a side at (x, y) and the tree that is written from a position on.
-abbrev pub Ends : ℕ → ℕ → ℕ → ℕ → ℕ → List ℕ → ℕ → End → Type 0
-Ends W H x y side t at r = (k : ℕ) → side ≡ 2 ^ k → r ≡ endOf W H k x y t at
+  -- Four children of the form that stand there: they are the split, unless they are equal leaves.
+  whole-end : (sw se nw ne : Quadtree) → Subtree (suc j) t at (split sw se nw ne)
+      → wellFormed W H j x y sw ≡ true → wellFormed W H j (x + 2 ^ j) y se ≡ true
+      → wellFormed W H j x (y + 2 ^ j) nw ≡ true → wellFormed W H j (x + 2 ^ j) (y + 2 ^ j) ne ≡ true
+      → let p = at + 1 + length (bytes sw) + length (bytes se) + length (bytes nw) + length (bytes ne) in
+      end-of (found (split sw se nw ne) []) ≡ cond (equalBytes t (at + 1) p) nowhere p
+  unfolding wellFormed bytes
+  whole-end sw se nw ne stands f1 f2 f3 f4 =
+      let p = at + 1 + length (bytes sw) + length (bytes se) + length (bytes nw) + length (bytes ne) in
+      let e = split-length sw se nw ne at in
+      let same = equal-bytes sw se nw ne t (at + 1) p (omega (arith, e)) λ i l.
+      ap (λ n. getD t n 0) (omega arith)
+      ∙ subtree-bytes (suc j) t at (split sw se nw ne) stands (suc i) (omega arith) in
+      rw (f1, f2, f3, f4, same, e) (go (equalBytes t (at + 1) p) p)
+    where
+      go : (b : Bool) (p : ℕ) → cond (not b) p nowhere ≡ cond b nowhere p
+      go true p = refl
+      go false p = refl
 
-module _ (W H x y side : ℕ) (t : List ℕ) (at : ℕ) where
-  pub past-end : length t ≤ at → Ends W H x y side t at Bad
-  past-end past k power = sym (no-end W H k x y t at λ q s f. omega (arith, subtree-inside k t at q s))
+  -- The end of a split, from the ends of its children.
+  pub split-end : at < length t → getD t at 0 ≡ 4
+      → let h = 2 ^ j in
+      let p = endOf W H j (x + h) (y + h) t
+      (endOf W H j x (y + h) t (endOf W H j (x + h) y t (endOf W H j x y t (at + 1)))) in
+      endOf W H (suc j) x y t at ≡ cond (equalBytes t (at + 1) p) nowhere p
+  unfolding endOf children wellFormed
+  split-end inside four =
+      let h = 2 ^ j in
+      let last : ℕ → ℕ = λ p. cond (equalBytes t (at + 1) p) nowhere p in
+      let from-ne : ℕ → ℕ = λ p. last (endOf W H j (x + h) (y + h) t p) in
+      let from-nw : ℕ → ℕ = λ p. from-ne (endOf W H j x (y + h) t p) in
+      let last-on : last nowhere ≡ nowhere = same (equalBytes t (at + 1) nowhere) in
+      let ne-on : from-ne nowhere ≡ nowhere = ap last (past (x + h) (y + h)) ∙ last-on in
+      let nw-on : from-nw nowhere ≡ nowhere = ap from-ne (past x (y + h)) ∙ ne-on in
+      ap end-of (ap (parse (suc j)) (from t at inside ∙ ap (λ b. b ∷ drop (at + 1) t) four)
+      ∙ read-split j (drop (at + 1) t))
+      ∙ child-end x y (at + 1) _ (λ p. from-nw (endOf W H j (x + h) y t p)) (ap from-nw (past (x + h) y) ∙ nw-on)
+      (λ sw s1 f1. child-end (x + h) y _ _ from-nw nw-on
+      (λ se s2 f2. child-end x (y + h) _ _ from-ne ne-on
+      (λ nw s3 f3. child-end (x + h) (y + h) _ _ last last-on
+      (λ ne s4 f4. whole-end sw se nw ne (split-subtree j t at sw se nw ne inside four s1 s2 s3 s4) f1 f2 f3 f4)
+      (λ ne s f4. rw (f1, f2, f3, f4)))
+      (λ nw s f3. formless (parse j s) _ λ ne r. rw (f1, f2, f3)))
+      (λ se s f2. formless (parse j s) _ λ nw r. formless (parse j r) _ λ ne r. rw (f1, f2)))
+      (λ sw s f1. formless (parse j s) _ λ se r. formless (parse j r) _ λ nw r. formless (parse j r) _ λ ne r. rw f1)
+    where
+      past : (u v : ℕ) → endOf W H j u v t nowhere ≡ nowhere
+      past u v = past-end W H j u v t nowhere (omega arith)
 
-  module _ (inside : at < length t) where
-    -- Bytes 0 to 3, by the form of the leaf.
-    module _ (low : getD t at 0 ≤ 3) where
-      pub leaf-end : ((k : ℕ) → side ≡ 2 ^ k → true ≡ wellFormed W H k x y (leaf (getD t at 0)))
-          → Ends W H x y side t at (At (at + 1))
-      unfolding bytes
-      leaf-end form k power =
-          sym (end-of-tree W H k x y t at (leaf (getD t at 0)) (leaf-subtree k t at inside low) (sym (form k power)))
+      same : (b : Bool) → cond b nowhere nowhere ≡ nowhere
+      same true = refl
+      same false = refl
 
-      pub leaf-bad : ((k : ℕ) → side ≡ 2 ^ k → false ≡ wellFormed W H k x y (leaf (getD t at 0)))
-          → Ends W H x y side t at Bad
-      leaf-bad form k power =
-          sym (no-end W H k x y t at λ q s f.
-          false≢true (form k power ∙ ap (wellFormed W H k x y) (sym (subtree-leaf k t at q s low)) ∙ f))
+-- ---- the whole tree
 
-    -- Another byte, or a single quarter.
-    pub wrong-byte : 3 < getD t at 0 → (getD t at 0 ≡ 4 → 1 < side → ⊥) → Ends W H x y side t at Bad
-    unfolding bytes
-    wrong-byte high bad k power = sym (no-end W H k x y t at λ q s f. none-there q s (subtree-split k t at q s high))
-      where
-        none-there : (q : Quadtree) → Subtree k t at q → Split k t at q → ⊥
-        none-there q s p =
-            bad (subtree-byte k t at q s ∙ ap (λ r. getD (bytes r) 0 0) (p .whole))
-            (omega (arith, power ∙ ap (λ n. 2 ^ n) (p .height), one-le-pow (p .j) 2 (omega arith)))
-
--- A single quarter can only be a leaf of the form.
-pub single-end : (W H x y : ℕ) (t : List ℕ) (at p : ℕ) → p ≡ at + 1 → at < length t → getD t at 0 ≤ 3
-    → ((k : ℕ) → 1 ≡ 2 ^ k → true ≡ wellFormed W H k x y (leaf (getD t at 0))) → Ends W H x y 1 t at (At p)
-single-end W H x y t at p e inside low form k power = ap At e ∙ leaf-end W H x y 1 t at inside low form k power
-
-pub single-bad : (W H x y : ℕ) (t : List ℕ) (at : ℕ) → at < length t
-    → ((k : ℕ) → 1 ≡ 2 ^ k → false ≡ wellFormed W H k x y (leaf (getD t at 0))) → Ends W H x y 1 t at Bad
-single-bad W H x y t at inside form = go (decLt 3 (getD t at 0))
+-- The tree of a slice is of the form if one of the root's square ends with the slice.
+pub form-end : (W H : ℕ) (t : List ℕ) → length t < nowhere
+    → eqb (endOf W H 5 0 0 t 0) (length t) ≡ formed W H (treeOf t)
+unfolding endOf
+form-end W H t few = go (parse 5 t) refl
   where
-    go : Dec (3 < getD t at 0) → Ends W H x y 1 t at Bad
-    go (yes high) = wrong-byte W H x y 1 t at inside high (λ four more. omega arith)
-    go (no low) = leaf-bad W H x y 1 t at inside (omega arith) form
+    -- the tree's end, and how much is left behind it
+    left : (q : Quadtree) (rest : List ℕ) → parse 5 t ≡ found q rest
+        → (0 + length (bytes q) ≤ length t) × (length t - (0 + length (bytes q)) ≡ length rest)
+    left q rest e =
+        let s = parse-stands 5 t 0 q rest e in
+        let r : drop (0 + length (bytes q)) t ≡ rest = cc in
+        (subtree-inside 5 t 0 q s .1, sym (length-drop (0 + length (bytes q)) t) ∙ ap length r)
 
--- The tree of the root's square is of the form if it is, and ends with the slice.
-pub whole-bad : (W H : ℕ) (t : List ℕ) → endOf W H 5 0 0 t 0 ≡ Bad → false ≡ formed W H (treeOf t)
-whole-bad W H t e = go (formed W H (treeOf t)) refl
-  where
-    go : (b : Bool) → formed W H (treeOf t) ≡ b → false ≡ b
-    go false f = refl
-    go true f =
-        let s = tree-subtree W H t f in
-        let found-end = end-of-tree W H 5 0 0 t 0 (regionsOf (treeOf t)) (s .1) (s .2) in
-        let z : _≡_ {A = ℕ} 0 1 = cc in
-        absurd (omega arith)
+    by-form : (q : Quadtree) (rest : List ℕ) (b : Bool) → parse 5 t ≡ found q rest → wellFormed W H 5 0 0 q ≡ b
+        → eqb (cond b (0 + length (bytes q)) nowhere) (length t) ≡ formed W H (found q rest)
+    by-form q [] true e f = eq-eqb (0 + length (bytes q)) (length t) (omega (arith, left q [] e)) ∙ sym f
+    by-form q [] false e f = ne-eqb nowhere (length t) (λ same. omega arith) ∙ sym f
+    by-form q (b ∷ s) true e f = ne-eqb (0 + length (bytes q)) (length t) (λ same. omega (arith, left q (b ∷ s) e))
+    by-form q (b ∷ s) false e f = ne-eqb nowhere (length t) (λ same. omega arith)
 
-pub whole-end : (W H : ℕ) (t : List ℕ) (p : ℕ) → endOf W H 5 0 0 t 0 ≡ At p → eqb p (length t) ≡ formed W H (treeOf t)
-whole-end W H t p e = rw (d .stands) (go (drop (0 + length (bytes (d .tree))) t) refl)
-  where
-    d : Ended W H 5 0 0 t 0 p
-    d = ended W H 5 0 0 t 0 p e
-
-    inside : p ≤ length t
-    inside = omega (arith, subtree-inside 5 t 0 (d .tree) (d .stands), d .end)
-
-    left : (rest : List ℕ) → drop (0 + length (bytes (d .tree))) t ≡ rest → length t - p ≡ length rest
-    left rest r = sym (length-drop p t) ∙ ap length (ap (λ n. drop n t) (d .end) ∙ r)
-
-    go : (rest : List ℕ) → drop (0 + length (bytes (d .tree))) t ≡ rest
-        → eqb p (length t) ≡ formed W H (found (d .tree) rest)
-    go [] r = eq-eqb p (length t) (omega (arith, left [] r, inside)) ∙ sym (d .form)
-    go (b ∷ rest) r = ne-eqb p (length t) (λ same. omega (arith, left (b ∷ rest) r))
+    go : (r : Parsed) → parse 5 t ≡ r → eqb (endOfParsed W H 5 0 0 0 r) (length t) ≡ formed W H r
+    go none e = ne-eqb nowhere (length t) (λ same. omega arith)
+    go (found q rest) e = by-form q rest (wellFormed W H 5 0 0 q) e refl

@@ -1,6 +1,4 @@
 pub mod SubtreeLaws
+pub mod EqualLeaves
 pub mod EndLaws
-pub mod SplitEnd
 pub mod WalkLaws
-pub mod VisitLaws
-pub mod VisitWalk

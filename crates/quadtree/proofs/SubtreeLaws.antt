@@ -4,13 +4,12 @@ use mathlib.Core.Bool.{Bool, true, false, false≢true}
 use mathlib.Core.List.{List, [], _∷_}
 use mathlib.Core.Path.{_≡_, refl, sym, ap, _∙_}
 use Prim.Native.Nat.{ℕ, zero, suc, _+_, _≤_, _<_}
-use native.Mathlib.Nat.{add-zero}
 use native.Mathlib.Numerals.{add-one}
 use native.Mathlib.Omega.{arith}
 use lib.Dec.{leb, eqb}
 use lib.ListN.{length, drop, getD, length-append, length-drop, List·getD-append}
 use lib.Seq.{drop-cons, drop-drop, drop-append-seam, getD-drop}
-use borrow.Author.Tests.{eqb-true, le-leb, lt-leb}
+use borrow.Author.Tests.{eqb-true, eqb-false, le-leb, lt-leb, ne-eqb}
 use Rattle.surface.specs.Quadtree.{Quadtree, leaf, split, bytes, Parsed, none, found, andThen}
 use Rattle.surface.specs.Quadtree.{parseNode, parse, wellFormed}
 use Rattle.surface.specs.Table.{treeOf, formed, regionsOf}
@@ -47,18 +46,23 @@ found-tree p q r s e = cc
 pub subtree-unique : (k : ℕ) (t : List ℕ) (at : ℕ) (p q : Quadtree) → Subtree k t at p → Subtree k t at q → p ≡ q
 subtree-unique k t at p q u v = found-tree p q _ _ (sym u ∙ v)
 
--- A subtree's first byte.
-pub subtree-byte : (k : ℕ) (t : List ℕ) (at : ℕ) (q : Quadtree) → Subtree k t at q → getD t at 0 ≡ getD (bytes q) 0 0
-subtree-byte k t at q s =
+-- A subtree's bytes.
+pub subtree-bytes : (k : ℕ) (t : List ℕ) (at : ℕ) (q : Quadtree) → Subtree k t at q → (i : ℕ) → i < length (bytes q)
+    → getD t (at + i) 0 ≡ getD (bytes q) i 0
+subtree-bytes k t at q s i inside =
     let rest = drop (at + length (bytes q)) t in
-    ap (λ n. getD t n 0) (sym (add-zero at))
-    ∙ sym (getD-drop at t 0 0)
-    ∙ ap (λ l. getD l 0 0) (bytes-parse k (drop at t) q rest s)
-    ∙ List·getD-append (bytes q) rest 0 0 (bytes-some q)
+    sym (getD-drop at t i 0)
+    ∙ ap (λ l. getD l i 0) (bytes-parse k (drop at t) q rest s)
+    ∙ List·getD-append (bytes q) rest 0 i inside
 
 -- The byte at a position and those after it.
-from : (t : List ℕ) (at : ℕ) → at < length t → drop at t ≡ getD t at 0 ∷ drop (at + 1) t
+pub from : (t : List ℕ) (at : ℕ) → at < length t → drop at t ≡ getD t at 0 ∷ drop (at + 1) t
 from t at inside = rw add-one (drop-cons t at 0 inside)
+
+pub read-none : (k : ℕ) → parse k [] ≡ none
+unfolding parse
+read-none zero = refl
+read-none (suc k) = refl
 
 read-leaf : (k b : ℕ) (s : List ℕ) → leb b 3 ≡ true → parse k (b ∷ s) ≡ found (leaf b) s
 unfolding parse
@@ -94,7 +98,7 @@ pub record Split (k : ℕ) (t : List ℕ) (at : ℕ) (q : Quadtree) : Type 0 whe
       ≡ at + 1 + length (bytes sw) + length (bytes se) + length (bytes nw) + length (bytes ne)
 
 -- The children of a split, read one after another.
-children : ℕ → List ℕ → Parsed
+unfoldable pub children : ℕ → List ℕ → Parsed
 children k s =
     andThen (parse k s) λ sw s1.
     andThen (parse k s1) λ se s2.
@@ -102,21 +106,22 @@ children k s =
     andThen (parse k s3) λ ne s4.
     found (split sw se nw ne) s4
 
-read-split : (k : ℕ) (s : List ℕ) → parse (suc k) (4 ∷ s) ≡ children k s
+pub read-split : (k : ℕ) (s : List ℕ) → parse (suc k) (4 ∷ s) ≡ children k s
 unfolding parse children
 read-split k s = refl
 
 -- No other byte starts a tree, and none above 3 starts that of a single quarter.
-read-wrong : (k b : ℕ) (s : List ℕ) → leb b 3 ≡ false → eqb b 4 ≡ false → parse k (b ∷ s) ≡ none
+pub read-wrong : (k b : ℕ) (s : List ℕ) → 3 < b → (b ≡ 4 → k ≡ 0) → parse k (b ∷ s) ≡ none
 unfolding parse
-read-wrong zero b s high other = rw (high, other, parseNode)
-read-wrong (suc k) b s high other = rw (high, other, parseNode)
+read-wrong zero b s high wrong = rw (lt-leb b 3 high, parseNode) (go (eqb b 4))
+  where
+    go : (u : Bool) → elim u [ true ↦ none | false ↦ none ] ≡ none
+    go true = refl
+    go false = refl
+read-wrong (suc k) b s high wrong =
+    rw (lt-leb b 3 high, ne-eqb b 4 (λ e. let z = wrong e in omega arith), parseNode)
 
-read-single : (s : List ℕ) → parse zero (4 ∷ s) ≡ none
-unfolding parse
-read-single s = refl
-
-split-length : (sw se nw ne : Quadtree) (at : ℕ)
+pub split-length : (sw se nw ne : Quadtree) (at : ℕ)
     → at + length (bytes (split sw se nw ne))
     ≡ at + 1 + length (bytes sw) + length (bytes se) + length (bytes nw) + length (bytes ne)
 unfolding bytes
@@ -182,23 +187,22 @@ split-children k t at q rest e =
 
 -- A tree whose first byte is no leaf's is a split.
 pub subtree-split : (k : ℕ) (t : List ℕ) (at : ℕ) (q : Quadtree) → Subtree k t at q → 3 < getD t at 0 → Split k t at q
-subtree-split k t at q s above = go k (eqb b 4) refl (sym (ap (parse k) (from t at inside)) ∙ s)
+subtree-split k t at q s above = go k (eqb (getD t at 0) 4) refl (sym (ap (parse k) (from t at inside)) ∙ s)
   where
-    b : ℕ
-    b = getD t at 0
-
-    rest : List ℕ
-    rest = drop (at + length (bytes q)) t
-
     inside : at < length t
     inside = subtree-inside k t at q s .0
 
-    go : (k : ℕ) (u : Bool) → eqb b 4 ≡ u → parse k (b ∷ drop (at + 1) t) ≡ found q rest → Split k t at q
-    go zero true four e =
-        never q rest (sym (read-single (drop (at + 1) t)) ∙ rw (eqb-true b 4 four) at e)
+    after : List ℕ
+    after = drop (at + 1) t
+
+    go : (k : ℕ) (u : Bool) → eqb (getD t at 0) 4 ≡ u
+        → parse k (getD t at 0 ∷ after) ≡ found q (drop (at + length (bytes q)) t) → Split k t at q
     go (suc j) true four e =
-        split-children j t at q rest (sym (read-split j (drop (at + 1) t)) ∙ rw (eqb-true b 4 four) at e)
-    go k false other e = never q rest (sym (read-wrong k b (drop (at + 1) t) (lt-leb b 3 above) other) ∙ e)
+        split-children j t at q _ (sym (read-split j after) ∙ rw (eqb-true (getD t at 0) 4 four) at e)
+    go zero u four e = never q _ (sym (read-wrong zero (getD t at 0) after above (λ _. refl)) ∙ e)
+    go (suc j) false other e =
+        never q _ (sym (read-wrong (suc j) (getD t at 0) after above
+        (λ four. absurd (eqb-false (getD t at 0) 4 other four))) ∙ e)
 
 -- A tree of the form stands in its slice from the start on.
 pub tree-subtree : (W H : ℕ) (t : List ℕ) → formed W H (treeOf t) ≡ true

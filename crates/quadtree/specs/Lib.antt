@@ -1,4 +1,3 @@
 pub mod Subtree
 pub mod End
 pub mod Judged
-pub mod Visit

@@ -1,9 +1,20 @@
--- A subtree that is written from a position on.
+-- The squares of a tree, and a subtree that is written from a position on.
 use mathlib.Core.Path.{_≡_}
-use mathlib.Core.List.{List}
-use Prim.Native.Nat.{ℕ, _+_, _^_}
+use mathlib.Core.List.{List, _++_}
+use Prim.Native.Nat.{ℕ, _+_, _^_, _≤_}
 use lib.ListN.{length, drop}
 use Rattle.surface.specs.Quadtree.{Quadtree, found, bytes, parse}
+
+-- a square of the tree: its side is a power of two, and it lies in the root's square
+pub record Square (x y side : ℕ) : Type 0 where
+  pub height : ℕ
+  pub power : side ≡ 2 ^ height
+  pub inU : x + side ≤ 32
+  pub inV : y + side ≤ 32
+
+-- the bytes of four trees, one after the other
+abbrev pub row : Quadtree → Quadtree → Quadtree → Quadtree → List ℕ
+row sw se nw ne = bytes sw ++ (bytes se ++ (bytes nw ++ bytes ne))
 
 -- the tree q of a square of side 2^k stands in t from a position on
 abbrev pub Subtree : ℕ → List ℕ → ℕ → Quadtree → Type 0

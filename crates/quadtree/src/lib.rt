@@ -1,3 +1,2 @@
-// Region trees as document 01 writes them: their form with their regions, and the least level under a box.
-pub mod visit;
+// Region trees as document 01 writes them: their form with their regions.
 pub mod walk;

@@ -1,6 +1,6 @@
 // The calls that ask a region tree: the least level under a box, and the activity of a level.
 ghost use mathlib.Core.Path.{_≡_};
-ghost use Rattle.surface.specs.Calls.{leastOutcome, activityOutcome};
+ghost use Rattle.surface.specs.Calls.{leastOutcome, activityOutcome, SliceMeets};
 ghost use Rattle.answers.specs.Answers.{leastAnswer, outcomeAnswer};
 
 // The least level under the box with corners (u0, v0) and (u1, v1), in quarters, with the nodes visited.
@@ -21,12 +21,12 @@ pub fn least_level(
     if region != 0 {
         return answers::Least::Refused(region);
     }
-    let a = quadtree::visit::Area { u0, v0, u1, v1 };
-    let past = table::cause::box_cause(w, h, a);
+    let b = boxes::Box { u0, v0, u1, v1 };
+    let past = table::cause::box_cause(w, h, b);
     if past != 0 {
         return answers::Least::Refused(past);
     }
-    let found = quadtree::visit::least_under(tree, w, h, a);
+    let found = leastlevel::under(tree, w, h, b);
     answers::Least::Level {
         level: found.least as u8,
         visited: found.visited,
@@ -41,8 +41,8 @@ pub fn activity_of(
     level: usize,
     out: &mut [u8],
 ) -> answers::Outcome
-    ensures { λ r. ⌜ (outcomeAnswer r ≡ (activityOutcome w h (now (tree .entry)) level (now (out .entry))) .result)
-        × (now (out .exit) ≡ (activityOutcome w h (now (tree .entry)) level (now (out .entry))) .after) ⌝ }
+    ensures { λ r. ⌜ SliceMeets (activityOutcome w h (now (tree .entry)) level (now (out .entry))) (outcomeAnswer r)
+        (now (out .exit)) ⌝ }
 {
     let mut rows = [0u32; 96];
     let region = table::cause::region_cause(w, h, tree, &mut rows);

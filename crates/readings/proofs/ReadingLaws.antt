@@ -1,61 +1,20 @@
--- The outcome at each way out of the readings.
+-- What follows from the exact reading, given or refused.
 use mathlib.Core.Path.{_≡_, refl, sym, ap, _∙_, subst}
-use mathlib.Core.Bool.{Bool, true, false, not, and-false}
+use mathlib.Core.Bool.{Bool, true, false}
 use mathlib.Core.List.{List}
-use Prim.Native.Nat.{ℕ, _*_, _^_, _≤_, _<_}
-use borrow.Author.Tests.{lt-ltb, le-ltb, le-leb, lt-leb}
+use Prim.Native.Nat.{ℕ, _^_, _≤_, _<_}
+use borrow.Author.Tests.{lt-ltb, le-ltb}
 use lib.Dec.{ltb}
 use lib.IntN.{ℤ}
 use lib.Ieee.{Float}
-use Rattle.surface.specs.Sheet.{onSheet}
 use Rattle.surface.specs.Truncation.{D}
-use Rattle.surface.specs.Table.{cause, _orElse_, tableCause, tableReading}
+use Rattle.surface.specs.Table.{cause, _orElse_, tableReading}
 use Rattle.surface.specs.Calls.{refused, gives, answer, readingCause, exactOutcome, wholeWatts}
 use Rattle.surface.specs.Calls.{displayOutcome, costOf, costOutcome}
 use Rattle.surface.specs.FloatReading.{Near, FloatMeets}
-use Rattle.surface.proofs.TableLaws.{orElse-first}
-use Rattle.answers.proofs.AnswerLaws.{refusal, refused-by, gives-by, refused-before, gives-before}
+use Rattle.answers.proofs.AnswerLaws.{refused-by, gives-by, refused-before, gives-before}
 
 module _ (W H : ℕ) (t : List ℕ) (cs : List ℤ) (u v : ℕ) where
-  -- ---- the cause
-
-  reading-by : (r : ℕ) (on : Bool) → r ≡ tableCause W H t cs → on ≡ onSheet W H u v
-      → r orElse cause 6 (not on) ≡ readingCause W H t cs u v
-  unfolding readingCause
-  reading-by r on e p =
-      ap (λ r. r orElse cause 6 (not on)) e ∙ ap (λ on. tableCause W H t cs orElse cause 6 (not on)) p
-
-  table-refused : (r : ℕ) → r ≡ tableCause W H t cs → (r ≡ 0 → ⊥) → r ≡ readingCause W H t cs u v
-  table-refused r e h = orElse-first r (cause 6 (not (onSheet W H u v))) h ∙ reading-by r (onSheet W H u v) e refl
-
-  -- ---- the exact reading
-
-  pub exact-refused : (n : ℕ) → n ≡ tableCause W H t cs → (n ≡ 0 → ⊥) → refused n ≡ exactOutcome W H t cs u v
-  unfolding exactOutcome
-  exact-refused n e h =
-      refusal n (tableReading W H t cs u v) h
-      ∙ ap (λ m. answer m (tableReading W H t cs u v)) (table-refused n e h)
-
-  off : 0 ≡ tableCause W H t cs → false ≡ onSheet W H u v → refused 6 ≡ exactOutcome W H t cs u v
-  unfolding exactOutcome
-  off e p = ap (λ m. answer m (tableReading W H t cs u v)) (reading-by 0 false e p)
-
-  pub off-u : 0 ≡ tableCause W H t cs → 128 * W < u → refused 6 ≡ exactOutcome W H t cs u v
-  off-u e h = off e (sym (simp (lt-leb u (128 * W) h)))
-
-  pub off-v : 0 ≡ tableCause W H t cs → 128 * H < v → refused 6 ≡ exactOutcome W H t cs u v
-  off-v e h = off e (sym (simp (lt-leb v (128 * H) h, and-false)))
-
-  pub exact-given : (n : ℤ) → 0 ≡ tableCause W H t cs → u ≤ 128 * W → v ≤ 128 * H → n ≡ tableReading W H t cs u v
-      → gives n ≡ exactOutcome W H t cs u v
-  unfolding exactOutcome
-  exact-given n e hu hv p =
-      ap gives p
-      ∙ ap (λ m. answer m (tableReading W H t cs u v))
-      (reading-by 0 true e (sym (simp (le-leb u (128 * W) hu, le-leb v (128 * H) hv))))
-
-  -- ---- what follows from the exact reading
-
   module _ (x : ℤ) (e : gives x ≡ exactOutcome W H t cs u v) where
     pub watts-given : (y : Float) → Near (2 ^ 30) D x y → FloatMeets (exactOutcome W H t cs u v) (gives y)
     watts-given y n = subst (λ o. FloatMeets o (gives y)) e n

@@ -1,5 +1,6 @@
--- Laws of bytes that stand in a list: one after the other, behind a head, and four trees that are joined.
-use mathlib.Core.Path.{_≡_, refl, sym, ap, _∙_}
+-- Laws of bytes that stand in a list: one after the other, behind a head, four trees that are joined, and the square
+-- of a side from those of its half, with the room that its children have.
+use mathlib.Core.Path.{_≡_, refl, sym, ap, ap₂, _∙_}
 use mathlib.Core.Bool.{true, false}
 use mathlib.Core.List.{List, [], _∷_, _++_, append-assoc}
 use Prim.Native.Nat.{ℕ, zero, suc, _+_, _-_, _*_, _/_, _^_, _≤_, _<_}
@@ -8,9 +9,13 @@ use native.Mathlib.Decide.{decLt}
 use native.Mathlib.Omega.{arith}
 use lib.ListN.{length, getD, set, take, length-append, length-set, List·getD-append}
 use lib.Seq.{getD-append-add, getD-set-same, getD-set-other, ext-getD, getD-take, length-take-le}
-use Rattle.surface.specs.Quadtree.{Quadtree, leaf, split, bytes, equalLeaves, join, regionTree}
-use Rattle.quadtree.proofs.SubtreeLaws.{bytes-some}
-use Rattle.regions.specs.Regions.{Stands, fourEqual, row, Joined, BuiltFrom, bytesOf}
+use Rattle.surface.specs.Quadtree.{Quadtree, leaf, bytes, join, regionTree}
+use Rattle.surface.proofs.TreeForm.{equal-leaves}
+use Rattle.quadtree.specs.Subtree.{row}
+use Rattle.quadtree.specs.End.{equalBytes}
+use Rattle.quadtree.proofs.EqualLeaves.{equal-bytes}
+use Rattle.quadtree.proofs.WalkLaws.{side-some}
+use Rattle.regions.specs.Regions.{Stands, LeafAt, Joined, Writable, BuiltFrom, bytesOf}
 use Rattle.regions.proofs.RegionLaws.{region-leaf}
 
 -- ---- bytes that stand from a position on
@@ -46,106 +51,57 @@ stands-head {bs} {at} {next} {out} v fits s = record { ends = omega arith; here 
         ∙ ap (λ p. getD out p 0) (omega arith)
         ∙ s .here i (omega arith)
 
-stands-one : (at v : ℕ) (out : List ℕ) → at < length out → Stands (v ∷ []) at (at + 1) (set out at v)
-stands-one at v out fits =
-    stands-head {out = out} v fits (record { ends = omega arith; here = none })
+pub leaf-at : (at v : ℕ) (out : List ℕ) → length out ≡ 1365 → at < 1365 → LeafAt v at (at + 1) out (set out at v)
+unfolding bytes
+leaf-at at v out size fits =
+    record {
+      size = length-set out at v ∙ size;
+      tree = stands-head {out = out} v (omega arith) (record { ends = omega arith; here = λ i. none i });
+      before-it = λ p l. getD-set-other out at p v 0 (λ e. omega arith);
+    }
   where
     none : (i : ℕ) → i < 0 → getD out (at + 1 + i) 0 ≡ getD [] i 0
     none i l = absurd (not-suc-le-zero l)
 
 -- ---- four trees as one
 
-row-length : (sw se nw ne : Quadtree)
-    → length (row sw se nw ne) ≡ length (bytes sw) + length (bytes se) + length (bytes nw) + length (bytes ne)
-row-length sw se nw ne = simp length-append (omega arith)
-
-split-length : (sw se nw ne : Quadtree) → 5 ≤ length (bytes (split sw se nw ne))
+-- equal leaves are one leaf of their level; any other trees are the children of a split
+pub joined-leaves : {at end next : ℕ} {out new : List ℕ} → at + 5 ≤ end → equalBytes out (at + 1) end ≡ true
+    → LeafAt (getD out (at + 1) 0) at next out new → Joined at end next out new
 unfolding bytes
-split-length sw se nw ne =
-    omega (arith, row-length sw se nw ne, bytes-some sw, bytes-some se, bytes-some nw, bytes-some ne)
-
--- four leaves, or trees that are not equal leaves and have more than four bytes
-data Four : Quadtree → Quadtree → Quadtree → Quadtree → Type 0 where
-  leaves : (a b c d : ℕ) → Four (leaf a) (leaf b) (leaf c) (leaf d)
-  longer : (sw se nw ne : Quadtree) → equalLeaves sw se nw ne ≡ false → 4 < length (row sw se nw ne)
-      → Four sw se nw ne
-
-four : (sw se nw ne : Quadtree) → Four sw se nw ne
-four (leaf a) (leaf b) (leaf c) (leaf d) = leaves a b c d
-four (leaf a) (leaf b) (leaf c) (split d e f g) =
-    longer (leaf a) (leaf b) (leaf c) (split d e f g) refl
-    (omega (arith, row-length (leaf a) (leaf b) (leaf c) (split d e f g), split-length d e f g))
-four (leaf a) (leaf b) (split c d e f) g =
-    longer (leaf a) (leaf b) (split c d e f) g refl
-    (omega (arith, row-length (leaf a) (leaf b) (split c d e f) g, split-length c d e f))
-four (leaf a) (split b c d e) f g =
-    longer (leaf a) (split b c d e) f g refl
-    (omega (arith, row-length (leaf a) (split b c d e) f g, split-length b c d e))
-four (split a b c d) e f g =
-    longer (split a b c d) e f g refl (omega (arith, row-length (split a b c d) e f g, split-length a b c d))
-
-module _ {at : ℕ} {out : List ℕ} (sw se nw ne : Quadtree) where
-  -- four bytes are four leaves
-  four-leaves : Stands (row sw se nw ne) at (at + 4) out
-      → (sw ≡ leaf (getD out at 0)) × (equalLeaves sw se nw ne ≡ fourEqual out at)
-  unfolding bytes
-  four-leaves s = go (four sw se nw ne) s
-    where
-      go : {sw se nw ne : Quadtree} → Four sw se nw ne → Stands (row sw se nw ne) at (at + 4) out
-          → (sw ≡ leaf (getD out at 0)) × (equalLeaves sw se nw ne ≡ fourEqual out at)
-      go (leaves a b c d) s =
-          let at0 : getD out at 0 ≡ a = ap (λ p. getD out p 0) (omega arith) ∙ s .here 0 (omega arith) in
-          rw (at0, s .here 1 (omega arith), s .here 2 (omega arith), s .here 3 (omega arith)) (refl, refl)
-      go (longer sw se nw ne e l) s = absurd (omega (arith, s .ends))
-
-  -- more or fewer are not four equal leaves
-  not-four : {end : ℕ} → Stands (row sw se nw ne) at end out → (end ≡ at + 4 → ⊥) → equalLeaves sw se nw ne ≡ false
-  unfolding bytes
-  not-four {end} s far = go (four sw se nw ne) s
-    where
-      go : {sw se nw ne : Quadtree} → Four sw se nw ne → Stands (row sw se nw ne) at end out
-          → equalLeaves sw se nw ne ≡ false
-      go (leaves a b c d) s = absurd (far (s .ends))
-      go (longer sw se nw ne e l) s = e
-
--- the head of four equal leaves takes their level; any other head is a split's
-pub joined-leaves : (at end : ℕ) (out : List ℕ) → length out ≡ 1365 → at < end → end ≤ 1365 → end ≡ at + 5
-    → fourEqual out (at + 1) ≡ true → Joined at end (at + 1) out (set out at (getD out (at + 1) 0))
-unfolding bytes
-joined-leaves at end out size low high five same =
+joined-leaves {at} {end} {next} {out} {new} low same l =
     record {
-      size = length-set out at (getD out (at + 1) 0) ∙ size;
-      forth = omega arith;
-      room = omega arith;
-      tree = λ sw se nw ne s.
-          let four : end ≡ at + 1 + 4 = omega arith in
-          let found = four-leaves sw se nw ne (rw four at s) in
-          rw (found .1 ∙ same, found .0) (stands-one at (getD out (at + 1) 0) out (omega arith));
-      before-it = λ p l. getD-set-other out at p (getD out (at + 1) 0) 0 (λ e. omega arith);
+      size = l .size;
+      forth = omega (arith, l .tree .ends);
+      room = omega (arith, l .tree .ends);
+      tree = tree;
+      before-it = l .before-it;
     }
+  where
+    level : (sw : Quadtree) (bs : List ℕ) (v : ℕ) → sw ≡ leaf v → Stands (bytes sw ++ bs) (at + 1) end out
+        → getD out (at + 1) 0 ≡ v
+    level sw bs v e s = ap (λ p. getD out p 0) (omega arith) ∙ (rw e at s) .here 0 (omega arith)
 
-pub joined-split : (at end : ℕ) (out : List ℕ) → length out ≡ 1365 → at < end → end ≤ 1365
-    → ((sw se nw ne : Quadtree) → Stands (row sw se nw ne) (at + 1) end out → equalLeaves sw se nw ne ≡ false)
-    → Joined at end end out (set out at 4)
+    tree : (sw se nw ne : Quadtree) → Stands (row sw se nw ne) (at + 1) end out
+        → Stands (bytes (join sw se nw ne)) at next new
+    tree sw se nw ne s =
+        let e = equal-bytes sw se nw ne out (at + 1) end (s .ends) (s .here) ∙ same in
+        let q = equal-leaves sw se nw ne e in
+        rw (e, q .leaves true true, ← level sw (bytes se ++ (bytes nw ++ bytes ne)) (q .level) (q .leaves true true) s)
+        (l .tree)
+
+pub joined-split : (at end : ℕ) (out : List ℕ) → length out ≡ 1365 → at + 5 ≤ end → end ≤ 1365
+    → equalBytes out (at + 1) end ≡ false → Joined at end end out (set out at 4)
 unfolding bytes
-joined-split at end out size low high unequal =
+joined-split at end out size low high other =
     record {
       size = length-set out at 4 ∙ size;
       forth = omega arith;
       room = omega arith;
-      tree = λ sw se nw ne s. rw (unequal sw se nw ne s) (stands-head 4 (omega arith) s);
+      tree = λ sw se nw ne s.
+          rw (equal-bytes sw se nw ne out (at + 1) end (s .ends) (s .here) ∙ other) (stands-head 4 (omega arith) s);
       before-it = λ p l. getD-set-other out at p 4 0 (λ e. omega arith);
     }
-
-pub unequal-bytes : (at end : ℕ) (out : List ℕ) → end ≡ at + 5 → fourEqual out (at + 1) ≡ false
-    → (sw se nw ne : Quadtree) → Stands (row sw se nw ne) (at + 1) end out → equalLeaves sw se nw ne ≡ false
-unequal-bytes at end out five other sw se nw ne s =
-    let four : end ≡ at + 1 + 4 = omega arith in
-    four-leaves sw se nw ne (rw four at s) .1 ∙ other
-
-pub other-length : (at end : ℕ) (out : List ℕ) → (end ≡ at + 5 → ⊥)
-    → (sw se nw ne : Quadtree) → Stands (row sw se nw ne) (at + 1) end out → equalLeaves sw se nw ne ≡ false
-other-length at end out far sw se nw ne s = not-four sw se nw ne s (λ e. far (omega arith))
 
 -- ---- the square of a side from those of its half
 
@@ -177,10 +133,55 @@ halved side (suc j) e n =
     square : (h s : ℕ) → s ≡ 2 * h → s * s ≡ 4 * (h * h)
     square h s e = rw e (omega (arith, mul-assoc 2 h (2 * h), mul-left-comm h 2 h))
 
-pub some-area : (side k : ℕ) → side ≡ 2 ^ k → (1 ≤ side) × (1 ≤ side * side)
-some-area side k e =
-    let positive : 1 ≤ side = omega (arith, one-le-pow k 2 (omega arith)) in
-    (positive, mul-le-mul positive positive)
+-- a square that may be written has bytes, and its children may be written one after the other
+module _ {x y side at : ℕ} {out : List ℕ} (w : Writable x y side at out) where
+  pub some : (1 ≤ side) × (1 ≤ side * side) × (at < 1365)
+  some =
+      let positive = side-some (w .square) in
+      let area = mul-le-mul positive positive in
+      (positive, area, omega (arith, w .room))
+
+  module _ (more : side ≡ 1 → ⊥) where
+    pub parts : Halved side
+    parts = halved side (w .square .height) (w .square .power) more
+
+    pub less : {n : ℕ} → side ≡ n → side / 2 < n
+    less e = omega (arith, parts .twice, parts .some)
+
+    part : {u v p : ℕ} {m : List ℕ} → (u + side / 2 ≤ 32) × (v + side / 2 ≤ 32)
+        → 3 * p + 4 * (side / 2 * (side / 2)) ≤ 4096 → length m ≡ 1365 → Writable u v (side / 2) p m
+    part f room size =
+        record {
+          square = record { height = parts .j; power = parts .half; inU = f .0; inV = f .1 };
+          room = room;
+          size = size;
+        }
+
+    pub first : {u v : ℕ} → (u + side / 2 ≤ 32) × (v + side / 2 ≤ 32) → Writable u v (side / 2) (at + 1) out
+    first f = part f (omega (arith, w .room, parts .area, parts .place)) (w .size)
+
+    module _ {lev₁ : ℕ → ℕ → ℕ} {x₁ y₁ p₁ : ℕ} {m₁ : List ℕ}
+        (d₁ : BuiltFrom x₁ y₁ (side / 2) lev₁ (at + 1) p₁ out m₁) where
+      pub second : {u v : ℕ} → (u + side / 2 ≤ 32) × (v + side / 2 ≤ 32) → Writable u v (side / 2) p₁ m₁
+      second f = part f (omega (arith, w .room, parts .area, parts .place, d₁ .room)) (d₁ .size)
+
+      module _ {lev₂ : ℕ → ℕ → ℕ} {x₂ y₂ p₂ : ℕ} {m₂ : List ℕ} (d₂ : BuiltFrom x₂ y₂ (side / 2) lev₂ p₁ p₂ m₁ m₂) where
+        pub third : {u v : ℕ} → (u + side / 2 ≤ 32) × (v + side / 2 ≤ 32) → Writable u v (side / 2) p₂ m₂
+        third f = part f (omega (arith, w .room, parts .area, parts .place, d₁ .room, d₂ .room)) (d₂ .size)
+
+        module _ {lev₃ : ℕ → ℕ → ℕ} {x₃ y₃ p₃ : ℕ} {m₃ : List ℕ}
+            (d₃ : BuiltFrom x₃ y₃ (side / 2) lev₃ p₂ p₃ m₂ m₃) where
+          pub fourth : {u v : ℕ} → (u + side / 2 ≤ 32) × (v + side / 2 ≤ 32) → Writable u v (side / 2) p₃ m₃
+          fourth f =
+              part f (omega (arith, w .room, parts .area, parts .place, d₁ .room, d₂ .room, d₃ .room)) (d₃ .size)
+
+          pub written : {lev₄ : ℕ → ℕ → ℕ} {x₄ y₄ p₄ : ℕ} {m₄ : List ℕ}
+              → BuiltFrom x₄ y₄ (side / 2) lev₄ p₃ p₄ m₃ m₄ → (at + 5 ≤ p₄) × (p₄ ≤ 1365) × (length m₄ ≡ 1365)
+          written d₄ = (
+            omega (arith, d₁ .forth, d₂ .forth, d₃ .forth, d₄ .forth),
+            omega (arith, w .room, parts .area, d₁ .room, d₂ .room, d₃ .room, d₄ .room),
+            d₄ .size,
+          )
 
 -- a tree written behind others leaves them, and stands after them
 onward : {ls : List ℕ} {at mid next x y side : ℕ} {lev : ℕ → ℕ → ℕ} {m new : List ℕ} (k : ℕ) → side ≡ 2 ^ k
@@ -188,37 +189,25 @@ onward : {ls : List ℕ} {at mid next x y side : ℕ} {lev : ℕ → ℕ → ℕ
     → BuiltFrom x y side lev mid next m new → Stands (ls ++ bytesOf k x y lev) at next new
 onward k e s d = stands-append (stands-kept s (d .before-it)) (d .tree k e)
 
-pub built-one : (x y side at v : ℕ) (lev : ℕ → ℕ → ℕ) (out : List ℕ) → side ≡ 1 → length out ≡ 1365 → at < 1365
-    → v ≡ lev x y → BuiltFrom x y side lev at (at + 1) out (set out at v)
-unfolding bytes regionTree
-built-one x y side at v lev out one size fits same =
-    record {
-      size = length-set out at v ∙ size;
-      forth = omega arith;
-      room = rw one (omega arith);
-      tree = λ k e. tree k (sym e ∙ one);
-      before-it = λ p l. getD-set-other out at p v 0 (λ e. omega arith);
-    }
-  where
-    tree : (k : ℕ) → 2 ^ k ≡ 1 → Stands (bytesOf k x y lev) at (at + 1) (set out at v)
-    tree zero e = rw (← same) (stands-one at v out (omega arith))
-    tree (suc k) e = absurd (omega (arith, one-le-pow k 2 (omega arith)))
-
 -- a square of one level is one leaf
-pub built-leaf : (x y side at v : ℕ) (lev : ℕ → ℕ → ℕ) (out : List ℕ) → 1 ≤ side * side → length out ≡ 1365 → at < 1365
-    → v ≤ 3 → ((q r : ℕ) → x ≤ q → q < x + side → y ≤ r → r < y + side → lev q r ≡ v)
-    → BuiltFrom x y side lev at (at + 1) out (set out at v)
+pub built-leaf : {x y side at next v : ℕ} {lev : ℕ → ℕ → ℕ} {out new : List ℕ} → 1 ≤ side * side → v ≤ 3
+    → LeafAt v at next out new → ((q r : ℕ) → x ≤ q → q < x + side → y ≤ r → r < y + side → lev q r ≡ v)
+    → BuiltFrom x y side lev at next out new
 unfolding bytes
-built-leaf x y side at v lev out some size fits low same =
+built-leaf {x} {y} {side} {at} {next} {v} {lev} {out} {new} some low l same =
     record {
-      size = length-set out at v ∙ size;
-      forth = omega arith;
-      room = omega arith;
+      size = l .size;
+      forth = omega (arith, l .tree .ends);
+      room = omega (arith, l .tree .ends);
       tree = λ k e.
-          rw (region-leaf k x y v lev low (λ q r a b c d. same q r a (omega arith) c (omega arith)))
-          (stands-one at v out (omega arith));
-      before-it = λ p l. getD-set-other out at p v 0 (λ e. omega arith);
+          rw (region-leaf k x y v lev low (λ q r a b c d. same q r a (omega arith) c (omega arith))) (l .tree);
+      before-it = l .before-it;
     }
+
+pub built-one : {x y side at next v : ℕ} {lev : ℕ → ℕ → ℕ} {out new : List ℕ} → side ≡ 1 → v ≤ 3 → v ≡ lev x y
+    → LeafAt v at next out new → BuiltFrom x y side lev at next out new
+built-one {lev = lev} one low same l =
+    built-leaf (rw one (omega arith)) low l (λ q r a b c d. sym (same ∙ ap₂ lev (omega arith) (omega arith)))
 
 region-join : (k x y h : ℕ) (lev : ℕ → ℕ → ℕ) → h ≡ 2 ^ k
     → regionTree (suc k) x y lev
@@ -227,7 +216,7 @@ region-join : (k x y h : ℕ) (lev : ℕ → ℕ → ℕ) → h ≡ 2 ^ k
 unfolding regionTree
 region-join k x y h lev e = rw e
 
-pub built-four : (x y side at : ℕ) (lev : ℕ → ℕ → ℕ) {p₁ p₂ p₃ p₄ next : ℕ} {out m₁ m₂ m₃ m₄ new : List ℕ}
+pub built-four : {x y side at : ℕ} {lev : ℕ → ℕ → ℕ} {p₁ p₂ p₃ p₄ next : ℕ} {out m₁ m₂ m₃ m₄ new : List ℕ}
     → Halved side
     → BuiltFrom x y (side / 2) lev (at + 1) p₁ out m₁
     → BuiltFrom (x + side / 2) y (side / 2) lev p₁ p₂ m₁ m₂
@@ -235,7 +224,7 @@ pub built-four : (x y side at : ℕ) (lev : ℕ → ℕ → ℕ) {p₁ p₂ p₃
     → BuiltFrom (x + side / 2) (y + side / 2) (side / 2) lev p₃ p₄ m₃ m₄
     → Joined at p₄ next m₄ new
     → BuiltFrom x y side lev at next out new
-built-four x y side at lev {p₁} {p₂} {p₃} {p₄} {next} {out} {m₁} {m₂} {m₃} {m₄} {new} s d₁ d₂ d₃ d₄ jn =
+built-four {x} {y} {side} {at} {lev} {next = next} {new = new} s d₁ d₂ d₃ d₄ jn =
     record {
       size = jn .size;
       forth = jn .forth;

@@ -3,46 +3,32 @@
 use mathlib.Core.Path.{_≡_, refl, sym, ap, ap₂, _∙_, subst}
 use mathlib.Core.Bool.{Bool, true, false, _&&_, cond, true≢false, and-false}
 use mathlib.Core.List.{List}
-use Prim.Native.Nat.{ℕ, _+_, _-_, _*_, _/_, _^_, _≤_, _<_, max}
-use native.Mathlib.Nat.{zero-add, add-zero}
+use Prim.Native.Nat.{ℕ, _+_, _-_, _*_, _/_, _≤_, _<_, max}
 use native.Mathlib.Decide.{decLt}
 use native.Mathlib.Omega.{arith}
-use borrow.Author.Tests.{leb-true, ltb-true, le-leb, lt-ltb, le-ltb}
-use lib.Dec.{leb, ltb}
-use lib.ListN.{length, getD, set, take}
+use borrow.Author.Tests.{lt-ltb, le-ltb}
+use lib.ListN.{length}
+use Rattle.finite.proofs.Tests.{both, lts-true, pick}
 use Rattle.surface.specs.Sheet.{Box}
 use Rattle.surface.specs.Support.{inBox}
 use Rattle.surface.specs.Carry.{raised}
-use Rattle.surface.proofs.Least.{both, pick}
-use Rattle.quadtree.specs.Visit.{overlap, sharesArea}
+use Rattle.boxes.specs.Boxes.{overlap, sharesArea}
+use Rattle.boxes.proofs.BoxLaws.{between, between-intro, box-shares}
 use Rattle.rows.specs.Rows.{inRows, levelsOf, Nested, above, inSpan, Painted, Raised}
-use Rattle.rows.proofs.Spans.{in-span, before-span, past-span, span-true}
+use Rattle.rows.proofs.Spans.{past-span, span-true}
 use Rattle.rows.proofs.RowLaws.{fourLevels, painted-four}
-use Rattle.regions.specs.Regions.{bytesOf, Stands, Joined, BuiltFrom, named, TakesLevel, InsertedFrom, Inserted}
+use Rattle.regions.specs.Regions.{Stands, LeafAt, Joined, BuiltFrom, named, TakesLevel, InsertedFrom, Inserted}
 use Rattle.regions.proofs.BuildLaws.{Halved, built-one, built-leaf, built-four, built-all}
-use Rattle.regions.proofs.PaintLaws.{painted-cong, painted-nested, level-inside, level-beside}
+use Rattle.regions.proofs.PaintLaws.{painted-cong, painted-nested, level-inside, level-beside, three-levels}
 use Rattle.regions.proofs.RegionLaws.{region-cong}
 
 -- ---- squares and the box
-
--- a square in the box shares area with it
-in-shares : (lo hi x n q : ℕ) → x ≤ q → q < x + n → (leb lo q && ltb q hi) ≡ true → overlap lo hi x n ≡ true
-in-shares lo hi x n q l u e =
-    let s = both (leb lo q) (ltb q hi) e in
-    let a = leb-true lo q (s .0) in
-    let b = ltb-true q hi (s .1) in
-    rw (lt-ltb x hi (omega arith)) (lt-ltb lo (x + n) (omega arith))
 
 apart : (x y side : ℕ) (box : Box) (q r : ℕ) → sharesArea x y side box ≡ false → x ≤ q → q < x + side → y ≤ r
     → r < y + side → inBox box q r ≡ false
 apart x y side box q r none lu hu lv hv =
     pick (inBox box q r) (λ t. t ≡ false)
-    (λ e.
-    let s = both (leb (box .u0) q && ltb q (box .u1)) (leb (box .v0) r && ltb r (box .v1)) e in
-    let shared : sharesArea x y side box ≡ true =
-    ap₂ _&&_ (in-shares (box .u0) (box .u1) x side q lu hu (s .0))
-    (in-shares (box .v0) (box .v1) y side r lv hv (s .1)) in
-    absurd (true≢false (sym shared ∙ none)))
+    (λ e. absurd (true≢false (sym (box-shares box x y side q r lu hu lv hv e) ∙ none)))
     (λ _. refl)
 
 -- a single quarter that shares area with the box lies in it
@@ -51,11 +37,10 @@ quarter-in x y box e =
     let s = both (overlap (box .u0) (box .u1) x 1) (overlap (box .v0) (box .v1) y 1) e in
     ap₂ _&&_ (along (box .u0) (box .u1) x (s .0)) (along (box .v0) (box .v1) y (s .1))
   where
-    along : (lo hi q : ℕ) → overlap lo hi q 1 ≡ true → (leb lo q && ltb q hi) ≡ true
+    along : (lo hi q : ℕ) → overlap lo hi q 1 ≡ true → between lo hi q ≡ true
     along lo hi q o =
-        let t = both (ltb q hi) (ltb lo (q + 1)) o in
-        let low = ltb-true lo (q + 1) (t .1) in
-        rw (le-leb lo q (omega arith)) (t .0)
+        let p : (q < hi) × (lo < q + 1) = lts-true q hi lo (q + 1) o in
+        between-intro lo hi q (omega arith) (p .0)
 
 -- ---- a tree by levels that agree in its square
 
@@ -106,20 +91,20 @@ inserted-none {x} {y} {side} {at} {next} {rows} box level none size d =
 
 -- ---- a single quarter
 
-pub inserted-one : {x y side at v : ℕ} {rows new before : List ℕ} (box : Box) (level : ℕ) → side ≡ 1
+pub inserted-one : {x y side at next v : ℕ} {rows new before after : List ℕ} (box : Box) (level : ℕ) → side ≡ 1
     → sharesArea x y side box ≡ true → x < 32 → y < 32 → level ≤ 3 → Nested rows → Raised x y 1 (λ _ _. level) rows new
-    → v ≡ levelsOf new x y → length before ≡ 1365 → at < 1365
-    → InsertedFrom x y side box level rows new at (at + 1) before (set before at v)
-inserted-one {x} {y} {side} {at} {v} {rows} {new} {before} box level one shared hx hy low nested up same size fits =
+    → v ≡ levelsOf new x y → LeafAt v at next before after
+    → InsertedFrom x y side box level rows new at next before after
+inserted-one {x} {y} {side} {v = v} {rows} {new} box level one shared hx hy low nested up same l =
     record {
       raises = rw one (painted-cong (up .painted) λ i j hi hj.
           let ei : x + i ≡ x = omega arith in
           let ej : y + j ≡ y = omega arith in
           sym (rw (ei, ej, inside) refl));
-      builds = built-one x y side at v (raised (levelsOf rows) box level) before one size fits
+      builds = built-one one (omega (arith, same, three-levels new x y))
           (same
           ∙ level-inside (up .painted) nested x y hx hy (omega arith) (omega arith) (omega arith) (omega arith) low
-          ∙ sym (ap (λ t. cond t (max (levelsOf rows x y) level) (levelsOf rows x y)) inside));
+          ∙ sym (ap (λ t. cond t (max (levelsOf rows x y) level) (levelsOf rows x y)) inside)) l;
     }
   where
     inside : inBox box x y ≡ true
@@ -127,30 +112,15 @@ inserted-one {x} {y} {side} {at} {v} {rows} {new} {before} box level one shared 
 
 -- ---- a square that takes the level
 
-pub takes : (x y side level : ℕ) (box : Box) (rows : List ℕ) → box .u0 ≤ x → box .v0 ≤ y → x + side ≤ box .u1
-    → y + side ≤ box .v1
-    → ((q r : ℕ) → x ≤ q → q < x + side → y ≤ r → r < y + side → levelsOf rows q r ≤ level)
-    → TakesLevel x y side box level rows
-takes x y side level box rows u0 v0 u1 v1 low =
-    record {
-      inside = λ q r a b c d.
-          ap₂ _&&_ (along (box .u0) (box .u1) q (omega arith) (omega arith))
-          (along (box .v0) (box .v1) r (omega arith) (omega arith));
-      low = low;
-    }
-  where
-    along : (lo hi q : ℕ) → lo ≤ q → q < hi → (leb lo q && ltb q hi) ≡ true
-    along lo hi q a b = rw (le-leb lo q a) (lt-ltb q hi b)
-
-pub inserted-leaf : {x y side at : ℕ} {rows new before : List ℕ} (box : Box) (level : ℕ) → 1 ≤ side * side → level ≤ 3
-    → TakesLevel x y side box level rows → Raised x y side (λ _ _. level) rows new → length before ≡ 1365 → at < 1365
-    → InsertedFrom x y side box level rows new at (at + 1) before (set before at level)
-inserted-leaf {x} {y} {side} {at} {rows} {new} {before} box level some low t up size fits =
+pub inserted-leaf : {x y side at next : ℕ} {rows new before after : List ℕ} (box : Box) (level : ℕ) → 1 ≤ side * side
+    → level ≤ 3 → TakesLevel x y side box level rows → Raised x y side (λ _ _. level) rows new
+    → LeafAt level at next before after → InsertedFrom x y side box level rows new at next before after
+inserted-leaf {x} {y} {rows = rows} box level some low t up l =
     record {
       raises = painted-cong (up .painted) λ i j hi hj.
           sym (ap (λ t. cond t level 0)
           (t .inside (x + i) (y + j) (omega arith) (omega arith) (omega arith) (omega arith)));
-      builds = built-leaf x y side at level (raised (levelsOf rows) box level) before some size fits low λ q r a b c d.
+      builds = built-leaf some low l λ q r a b c d.
           ap (λ t. cond t (max (levelsOf rows q r) level) (levelsOf rows q r)) (t .inside q r a b c d)
           ∙ omega (arith, t .low q r a b c d);
     }
@@ -211,7 +181,7 @@ inserted-four {x} {y} {side} {at} {box} {level} {m₀} {m₁} {m₂} {m₃} {m�
     let whole : h + h ≡ side = omega (arith, s .twice) in
     record {
       raises = rw (← whole) (painted-named box level (d₁ .raises) (d₂ .raises) (d₃ .raises) (d₄ .raises));
-      builds = built-four x y side at (raised (levelsOf m₀) box level) s
+      builds = built-four s
           (d₁ .builds)
           (built-cong (d₂ .builds) λ q r a b c e. ap (raise q r)
           (second-old box level (d₁ .raises) (d₂ .raises) (d₃ .raises) q r (omega arith) (omega arith) a))

@@ -1,14 +1,13 @@
 -- Squares of the rows that are raised: equal levels, nested regions, the levels in a square and beside it; and
 -- squares with no level above a given one.
-use mathlib.Core.Path.{_≡_, refl, sym, ap, ap₂, _∙_}
+use mathlib.Core.Path.{_≡_, refl, ap, ap₂, _∙_}
 use mathlib.Core.Bool.{Bool, true, false, _&&_, cond}
 use mathlib.Core.List.{List}
 use Prim.Native.Nat.{ℕ, zero, suc, _+_, _-_, _*_, _≤_, _<_, max}
 use native.Mathlib.Omega.{arith}
 use lib.ListN.{getD}
-use Rattle.finite.specs.Bits.{bit}
 use Rattle.finite.proofs.Bits.{bit-small}
-use Rattle.surface.proofs.Least.{both, pick}
+use Rattle.finite.proofs.Tests.{both, pick}
 use Rattle.rows.specs.Rows.{inRows, levelsOf, Nested, above, inSpan, NoneIn, Painted}
 use Rattle.rows.proofs.Spans.{in-span, span-true}
 

@@ -1,15 +1,15 @@
 -- What the insertion of a box into the regions gives, and what the tree of given levels is as bytes.
 use mathlib.Core.Path.{_≡_}
-use mathlib.Core.Bool.{Bool, true, _&&_, cond}
-use mathlib.Core.List.{List, _++_}
+use mathlib.Core.Bool.{true, cond}
+use mathlib.Core.List.{List}
 use Prim.Native.Nat.{ℕ, _+_, _*_, _^_, _≤_, _<_}
-use lib.Dec.{eqb}
 use lib.ListN.{length, getD, take}
 use Rattle.surface.specs.Sheet.{Box}
-use Rattle.surface.specs.Quadtree.{Quadtree, bytes, join, regionTree}
+use Rattle.surface.specs.Quadtree.{Quadtree, leaf, bytes, join, regionTree}
 use Rattle.surface.specs.Carry.{raised}
 use Rattle.surface.specs.Support.{inBox}
 use Rattle.rows.specs.Rows.{levelsOf, Nested, Painted}
+use Rattle.quadtree.specs.Subtree.{Square, row}
 
 -- the tree of the square of side 2^k at (x, y), as bytes
 abbrev pub bytesOf : ℕ → ℕ → ℕ → (ℕ → ℕ → ℕ) → List ℕ
@@ -20,16 +20,17 @@ pub record Stands (bs : List ℕ) (at next : ℕ) (out : List ℕ) : Type 0 wher
   pub ends : next ≡ at + length bs
   pub here : (i : ℕ) → i < length bs → getD out (at + i) 0 ≡ getD bs i 0
 
--- whether the four bytes from a position on are equal
-abbrev pub fourEqual : List ℕ → ℕ → Bool
-fourEqual out at =
-    eqb (getD out at 0) (getD out (at + 1) 0)
-    && eqb (getD out at 0) (getD out (at + 2) 0)
-    && eqb (getD out at 0) (getD out (at + 3) 0)
+-- the tree of a square may be written from a position on: the square lies in the root's, and its bytes have room
+pub record Writable (x y side at : ℕ) (out : List ℕ) : Type 0 where
+  pub square : Square x y side
+  pub room : 3 * at + 4 * (side * side) ≤ 4096
+  pub size : length out ≡ 1365
 
--- the bytes of four trees, one after the other
-abbrev pub row : Quadtree → Quadtree → Quadtree → Quadtree → List ℕ
-row sw se nw ne = bytes sw ++ (bytes se ++ (bytes nw ++ bytes ne))
+-- a leaf of a level written at a position, and nothing before it changed
+pub record LeafAt (level at next : ℕ) (before after : List ℕ) : Type 0 where
+  pub size : length after ≡ 1365
+  pub tree : Stands (bytes (leaf level)) at next after
+  pub before-it : (p : ℕ) → p < at → getD after p 0 ≡ getD before p 0
 
 -- four trees that were written behind a position are one tree from that position on, no longer than they were
 pub record Joined (at end next : ℕ) (before after : List ℕ) : Type 0 where

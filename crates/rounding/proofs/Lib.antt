@@ -1,2 +1,2 @@
 pub mod FloorLaws
-pub mod RoundingLaws
+pub mod CostLaws

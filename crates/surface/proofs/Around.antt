@@ -14,13 +14,14 @@ use borrow.Author.Tests.{leb-true, eq-eqb}
 use Rattle.finite.proofs.Int.{*ℤ-assoc}
 use Rattle.finite.proofs.Order.{scale-mono, le-abs, le-parts, zarith}
 use Rattle.finite.proofs.Extremum.{Lowest, Highest, Nowhere, least3, greatest3}
+use Rattle.finite.proofs.Tests.{both, and-intro}
 use Rattle.surface.specs.Sheet.{functions, onSheet}
 use Rattle.surface.specs.Support.{leastUnder, active, holdsAlong, holds}
 use Rattle.surface.specs.Truncation.{D, reading}
 use Rattle.surface.specs.Table.{levels, coefficients, limit, Acceptable}
 use Rattle.surface.specs.Demands.{Bracketed}
 use Rattle.surface.proofs.SplineTwoScale.{spline-holds}
-use Rattle.surface.proofs.Least.{both, and-intro, holds-parent}
+use Rattle.surface.proofs.Least.{holds-parent}
 use Rattle.surface.proofs.TableLaws.{sides, sound}
 use Rattle.surface.proofs.Bounds.{Between, reading-between}
 use Rattle.surface.proofs.Insertion.{scaled-between}

@@ -17,7 +17,7 @@ use Rattle.finite.proofs.Table.{grid-cong, grid-const}
 use Rattle.finite.proofs.Tests.{total-cong, count-cong}
 use Rattle.surface.specs.Sheet.{goodSide, functions, eighths, onSheet}
 use Rattle.surface.specs.Quadtree.{parse, wellFormed, levelAt, visits}
-use Rattle.surface.specs.Support.{shares, leastUnder, active}
+use Rattle.surface.specs.Support.{shares, leastUnder, active, activeInRow, activeCount}
 use Rattle.surface.specs.Spline.{cellOf, piece}
 use Rattle.surface.specs.Truncation.{D}
 use Rattle.surface.specs.Patch.{patch, patchReading}
@@ -26,7 +26,6 @@ use Rattle.surface.specs.Table.{regionCause, cause, tableCause, Acceptab
 use Rattle.surface.specs.Calls.{gives, activityBytes, activityCause, activityOutcome, leastOutcome}
 use Rattle.surface.specs.Calls.{readingCause, exactOutcome, answer, displayOutcome, costOutcome, wholeWatts}
 use Rattle.surface.specs.Calls.{costOf}
-use Rattle.surface.specs.TableFile.{activeInRow, activeCount}
 use Rattle.surface.specs.Demands.{Around}
 use Rattle.surface.specs.Bench.{rows, zeros, refined, columnsS, S, flat, first, second, columnsCarried}
 use Rattle.surface.specs.Bench.{carriedS, level700, ActivityIs, Equal, Finest, OneOnEight, BenchSheet}

@@ -12,7 +12,7 @@ use lib.Signed.{leZ, leZ-yes}
 use borrow.Author.Tests.{le-leb, le-ltb, eq-eqb}
 use Rattle.finite.specs.Range.{every2}
 use Rattle.finite.proofs.Order.{≤ℤ-antisym}
-use Rattle.finite.proofs.Tests.{every2-true}
+use Rattle.finite.proofs.Tests.{every2-true, both}
 use Rattle.surface.specs.Sheet.{functions, onSheet}
 use Rattle.surface.specs.Truncation.{D}
 use Rattle.surface.specs.Table.{places, place, coefficients, regionCause, tableCause, everywhere, Acceptable}
@@ -22,7 +22,6 @@ use Rattle.surface.specs.Calls.{activityBytes, activityCause, activityOu
 use Rattle.surface.specs.Calls.{exactOutcome, displayOutcome, costOutcome}
 use Rattle.surface.specs.FloatReading.{Near, FloatMeets}
 use Rattle.surface.specs.Bench.{zeros, box, Columns, ActivityIs, TreeGives, LastPoint}
-use Rattle.surface.proofs.Least.{both}
 use Rattle.surface.proofs.TableLaws.{everywhere-true}
 use Rattle.surface.proofs.Refusals.{float-refused}
 

@@ -13,12 +13,13 @@ use Rattle.finite.specs.Range.{sum, sum2}
 use Rattle.finite.proofs.Int.{*ℤ-assoc, *ℤ-left-comm}
 use Rattle.finite.proofs.Sum.{sum2-cong, sum2-zero, sum2-add, sum2-scale, sum2-swap}
 use Rattle.finite.proofs.Weighted.{weighted-cong}
+use Rattle.finite.proofs.Tests.{pick}
 use Rattle.surface.specs.Sheet.{functions, quarters}
 use Rattle.surface.specs.Support.{leastUnder, active, inRegion}
 use Rattle.surface.specs.Spline.{splineAt}
 use Rattle.surface.specs.Truncation.{weight, weight2, truncated, reading}
 use Rattle.surface.specs.Carry.{carried}
-use Rattle.surface.proofs.Least.{pick, leastUnder-parent, leastUnder-le-3, leastUnder-cong}
+use Rattle.surface.proofs.Least.{leastUnder-parent, leastUnder-le-3, leastUnder-cong}
 
 -- the factors of a product that is not 0
 pub factors : (x y : ℕ) → 0 < x * y → (0 < x) × (0 < y)

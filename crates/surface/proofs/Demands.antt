@@ -16,18 +16,18 @@ use Rattle.surface.specs.Table.{Acceptable, tableReading}
 use Rattle.surface.specs.Calls.{afterwards, lengthCause}
 use Rattle.surface.specs.Demands.{SelectionRule, InsertionRaises, OneTree, LinearReadings, Bracketed}
 use Rattle.surface.specs.Demands.{BracketedReadings, afterAll, RefinementMovesNoReading, ReadingFits}
-use Rattle.surface.specs.Demands.{PatchEvaluates, TwoScale}
+use Rattle.surface.specs.Demands.{PatchEvaluates, AnyLevel, TwoScale}
 use Rattle.surface.proofs.TreeLevels.{levelAt-le}
 use Rattle.surface.proofs.SplineCell.{cell-inside}
 use Rattle.surface.proofs.TwoScaleSum.{two-scale-sum, whole-step}
-use Rattle.surface.proofs.Least.{both}
 use Rattle.surface.proofs.Selection.{selection}
 use Rattle.surface.proofs.SupportLaws.{holds-positive, cell-positive, untruncated}
 use Rattle.surface.specs.Demands.{SupportIsWhereNotZero, Untruncated}
-use Rattle.surface.proofs.TableLaws.{orElse-none, cause-none, good-side, formed-tree, levels-of}
+use Rattle.surface.proofs.TableLaws.{good-side, formed-tree, levels-of}
 use Rattle.surface.proofs.TableLaws.{sound, sides, place-in-slice}
 use Rattle.surface.proofs.Linear.{linear}
-use Rattle.surface.proofs.PatchReading.{patch-carried, patch-reading}
+use Rattle.surface.proofs.AnyLevel.{level-reading}
+use Rattle.surface.proofs.PatchReading.{patch-carried, evaluated-reading, patch-reading}
 use Rattle.surface.proofs.Insertion.{carried-fits, new-levels}
 use Rattle.surface.specs.Calls.{exactOutcome, readingCause, pointCause, activityOutcome, activityCause}
 use Rattle.surface.specs.Calls.{activityBytes}
@@ -35,11 +35,13 @@ use Rattle.surface.specs.Table.{treeOf, formed, places, regionCause}
 use Rattle.surface.specs.Demands.{ReadingGiven}
 use Rattle.finite.specs.Range.{grid}
 use Rattle.finite.proofs.Table.{getD-grid}
+use Rattle.finite.proofs.Tests.{both}
 use borrow.Author.Tests.{ltb-false}
-use Rattle.surface.proofs.Refusals.{answer-gives, cause-off}
+use Rattle.surface.proofs.Refusals.{answer-gives}
 use Rattle.surface.proofs.Around.{on-sheet, bracketed, fits}
 use Rattle.surface.proofs.OneTree.{same-tree, one-tree-for}
-use Rattle.surface.proofs.InsertionList.{accepted, step-cases, all-keep}
+use Rattle.surface.proofs.Steps.{accepted, inserted-cases, all-keep}
+use Rattle.surface.proofs.Causes.{orElse-none, cause-none, cause-off}
 
 -- the exact reading is given on acceptable tables and points of the sheet
 pub reading-given : ReadingGiven
@@ -109,6 +111,11 @@ patch-evaluates W H t cs acc u v on =
           (carried-fits W H t cs s L (cellOf W L u + k) (cellOf H L v + l) hL (omega arith) (omega arith)),
     )
 
+-- A level from that of the point's quarter square on gives the exact reading.
+pub any-level : AnyLevel
+any-level W H lev coef u v pW pH hu hv L hL h =
+    (level-reading W H lev coef u v pW pH hu hv L hL h, evaluated-reading W H lev coef u v pW pH hu hv L hL h)
+
 -- Supports end where the splines stop being 0.
 pub support-is-where-not-zero : SupportIsWhereNotZero
 support-is-where-not-zero n L a p l = (λ x h. cell-positive n L a x p l h, λ u h. holds-positive n L a u p l h)
@@ -154,9 +161,9 @@ same-outcome W H s t c d p q u v e = rw (p, q, e)
 -- "After the list the exact reading at every point of the sheet equals that before the list, and so still lies between
 -- those two coefficients of the starting table."
 pub refinement-moves-no-reading : RefinementMovesNoReading
-refinement-moves-no-reading W H c is acc =
-    let d = afterAll W H c is in
-    let k = all-keep W H is c acc in
+refinement-moves-no-reading W H c ss acc =
+    let d = afterAll W H c ss in
+    let k = all-keep W H ss c acc in
     let same : (u v : ℕ) → exactOutcome W H (d .tree) (d .numbers) u v ≡ exactOutcome W H (c .tree) (c .numbers) u v =
     λ u v. same-outcome W H (d .tree) (c .tree) (d .numbers) (c .numbers) (k .0) acc u v (k .1 u v) in
     (k .0, λ u v. (same u v, λ n e. bracketed-readings W H (c .tree) (c .numbers) u v n (sym (same u v) ∙ e)))
@@ -164,11 +171,11 @@ refinement-moves-no-reading W H c is acc =
 -- "A box insertion raises lower levels inside the box to the one named, and changes no others."
 pub insertion-raises : InsertionRaises
 insertion-raises W H c i n e q r hq hr =
-    step-cases W H c i
+    inserted-cases W H c i
     (λ d. levels (d .tree) q r ≡ cond (inBox (i .box) q r) (max (levels (c .tree) q r) (i .level))
     (levels (c .tree) q r))
     (λ m f. absurd (let z : _≡_ {A = ℕ} 0 1 = cc in omega arith))
-    (λ k. let a = accepted W H (c .tree) (c .numbers) (i .box) (i .level) (i .treeOut) (i .numbersOut) k in
+    (λ k. let a = accepted W H (c .tree) (c .numbers) (i .box) (i .level) k in
     let s = sound W H (c .tree) (c .numbers) (a .0) in
     new-levels W H (c .tree) (s .tree) (sides s .1) (sides s .3) (i .box) (i .level)
     (a .3) (a .1) (a .2) q r hq hr)

@@ -17,7 +17,7 @@ use Rattle.surface.specs.Table.{levels, coefficients, limit, tableReadin
 use Rattle.surface.specs.Calls.{newLevels, newTree, newCoefficients}
 use Rattle.surface.proofs.TreeLevels.{levelAt-le, levelAt-beyond}
 use Rattle.surface.proofs.OneTree.{region-formed, region-levels}
-use Rattle.surface.proofs.Least.{both, pick, leastUnder-cong, leastUnder-raise}
+use Rattle.surface.proofs.Least.{leastUnder-cong, leastUnder-raise}
 use Rattle.surface.proofs.TableLaws.{Formed, levels-of, Sound, sides, slice-length, slice-coefficient}
 use Rattle.surface.proofs.Carried.{carried-own}
 use Rattle.surface.proofs.Linear.{reading-cong}
@@ -25,6 +25,7 @@ use Rattle.surface.proofs.Refine.{carriedOver-active, refine-reading}
 use Rattle.surface.proofs.Bounds.{Between, carried-between}
 use Rattle.finite.proofs.Int.{mul-neg}
 use Rattle.finite.proofs.Order.{scale-mono, scale-reflects, abs-le, le-abs}
+use Rattle.finite.proofs.Tests.{both, pick}
 use lib.Pow.{pow-add}
 use lib.Signed.{_≤ℤ_}
 

@@ -1,59 +1,17 @@
 -- The least level under a support: bounds, and that it rises from a function to its children and with the regions.
-use mathlib.Core.Path.{_≡_, refl, sym, ap, _∙_, subst}
-use mathlib.Core.Bool.{Bool, true, false, _&&_, cond}
-use Prim.Native.Nat.{ℕ, zero, suc, _+_, _-_, _*_, _≤_, _<_, min}
-use native.Mathlib.Nat.{le-refl, le-trans, min-le-left, min-le-right, le-min, le-of-eq, le-antisymm, lt-suc-self}
-use native.Mathlib.Nat.{le-step, mul-le-mul-right, mul-assoc, mul-comm, add-mul}
-use native.Mathlib.Decide.{decLt}
+use mathlib.Core.Path.{_≡_, sym, ap, _∙_, subst}
+use mathlib.Core.Bool.{Bool, true, _&&_, cond}
+use Prim.Native.Nat.{ℕ, suc, _+_, _-_, _*_, _≤_, _<_, min}
+use native.Mathlib.Nat.{le-trans, le-of-eq, le-antisymm}
+use native.Mathlib.Nat.{mul-le-mul-right, mul-assoc, mul-comm, add-mul}
 use native.Mathlib.Omega.{arith}
-use lib.Dec.{ltb}
-use borrow.Author.Tests.{ltb-true, lt-ltb}
 use Rattle.finite.specs.Range.{least}
+use Rattle.finite.proofs.Minima.{least-le-top, least-le, le-least}
+use Rattle.finite.proofs.Tests.{both, and-intro, lts-true, lts-intro, pick}
 use Rattle.surface.specs.Sheet.{eighths, steps, quarters}
 use Rattle.surface.specs.Support.{lowEnd, highEnd, shares, holdsAlong, leastWhere, leastUnder}
 use Rattle.surface.specs.Truncation.{weight}
 use Rattle.surface.proofs.SplineWeight.{weight-parent, eighths-step}
-
--- ---- minima over a range
-
-pub least-le-top : (top n : ℕ) (f : ℕ → ℕ) → least top n f ≤ top
-unfolding least
-least-le-top top zero f = le-refl top
-least-le-top top (suc n) f = le-trans (min-le-left (least top n f) (f n)) (least-le-top top n f)
-
-pub least-le : (top n : ℕ) (f : ℕ → ℕ) (k : ℕ) → k < n → least top n f ≤ f k
-unfolding least
-least-le top zero f k h = absurd (omega arith)
-least-le top (suc n) f k h = go (λ l. least-le top n f k l) (decLt k n)
-  where
-    go : (k < n → least top n f ≤ f k) → Dec (k < n) → min (least top n f) (f n) ≤ f k
-    go ih (yes l) = le-trans (min-le-left (least top n f) (f n)) (ih l)
-    go ih (no l) = let e : k ≡ n = omega arith in rw e (min-le-right (least top n f) (f n))
-
-pub le-least : (top n m : ℕ) (f : ℕ → ℕ) → m ≤ top → ((k : ℕ) → k < n → m ≤ f k) → m ≤ least top n f
-unfolding least
-le-least top zero m f t h = t
-le-least top (suc n) m f t h = le-min (le-least top n m f t (λ k l. h k (le-step l))) (h n (lt-suc-self n))
-
--- ---- tests that are conjunctions
-
-pub both : (a b : Bool) → (a && b) ≡ true → (a ≡ true) × (b ≡ true)
-both true b e = (refl, e)
-both false b e = absurd (subst lib.Dec.T (sym e) tt)
-
-pub and-intro : (a b : Bool) → a ≡ true → b ≡ true → (a && b) ≡ true
-and-intro a b p q = rw (p, q)
-
--- two orders tested together
-pub lts-true : (a b c d : ℕ) → (ltb a b && ltb c d) ≡ true → (a < b) × (c < d)
-lts-true a b c d e = (ltb-true a b (both (ltb a b) (ltb c d) e .0), ltb-true c d (both (ltb a b) (ltb c d) e .1))
-
-pub lts-intro : (a b c d : ℕ) → a < b → c < d → (ltb a b && ltb c d) ≡ true
-lts-intro a b c d p q = and-intro (ltb a b) (ltb c d) (lt-ltb a b p) (lt-ltb c d q)
-
-pub pick : (b : Bool) (P : Bool → Type 0) → (b ≡ true → P true) → (b ≡ false → P false) → P b
-pick true P t f = t refl
-pick false P t f = f refl
 
 -- ---- minima over the quarter squares of the sheet
 

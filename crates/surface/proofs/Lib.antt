@@ -1,3 +1,4 @@
+pub mod Causes
 pub mod Applied
 pub mod TreeForm
 pub mod TreeBytes
@@ -10,6 +11,7 @@ pub mod TwoScaleSum
 pub mod Least
 pub mod Parents
 pub mod Carried
+pub mod AnyLevel
 pub mod Linear
 pub mod Refine
 pub mod PatchReading
@@ -20,7 +22,7 @@ pub mod TableLaws
 pub mod OneTree
 pub mod Insertion
 pub mod Around
-pub mod InsertionList
+pub mod Steps
 pub mod Refusals
 pub mod Writers
 pub mod Demands

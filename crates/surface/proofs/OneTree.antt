@@ -8,6 +8,7 @@ use native.Mathlib.Nat.{zero-add}
 use native.Mathlib.Decide.{decLt}
 use native.Mathlib.Omega.{arith}
 use lib.Dec.{ltb, lit≤}
+use Rattle.finite.proofs.Tests.{pick, lts-true, lts-intro}
 use Rattle.surface.specs.Sheet.{quarters}
 use Rattle.surface.specs.Quadtree.{Quadtree, found, bytes, parse, wellFormed, levelAt, regionTree}
 use Rattle.surface.specs.Table.{levels}
@@ -15,7 +16,6 @@ use Rattle.surface.specs.Demands.{SameRegions, OneTreeFor}
 use Rattle.surface.proofs.TreeBytes.{parse-bytes, bytes-parse, tree-length}
 use Rattle.surface.proofs.TreeLevels.{levelAt-regionTree, regionTree-ext, regionTree-wellFormed}
 use Rattle.surface.proofs.TreeLevels.{levelAt-beyond, one-tree}
-use Rattle.surface.proofs.Least.{pick, lts-true, lts-intro}
 use Rattle.surface.proofs.TableLaws.{Formed, formed-tree, tree-formed, levels-of}
 
 -- a slice of the form is its tree's bytes

@@ -1,7 +1,7 @@
 -- The four by four patch subdivided from level to level gives the exact reading (EVAL_THB of source document 003).
 use mathlib.Core.Path.{_≡_, refl, sym, ap, _∙_}
 use mathlib.Core.Bool.{cond}
-use Prim.Native.Nat.{ℕ, zero, suc, _+_, _-_, _*_, _/_, _%_, _≤_, _<_}
+use Prim.Native.Nat.{ℕ, zero, suc, _+_, _-_, _*_, _/_, _%_, _≤_, _<_, min}
 use native.Mathlib.Nat.{add-assoc}
 use native.Mathlib.Decide.{ℕ-discrete}
 use native.Mathlib.Omega.{arith}
@@ -10,15 +10,16 @@ use lib.IntN.{ℤ, pos, _*ℤ_, zero-*ℤ}
 use Rattle.finite.specs.Range.{sum, sum2}
 use Rattle.finite.proofs.Sum.{sum-window, sum-cong, sum2-cong}
 use Rattle.finite.proofs.Weighted.{weighted-cong, both-directions}
-use Rattle.surface.specs.Sheet.{functions, steps}
+use Rattle.surface.specs.Sheet.{functions, steps, quarterOf}
 use Rattle.surface.specs.Support.{inRegion}
 use Rattle.surface.specs.Spline.{cellOf, piece, splineAt}
 use Rattle.surface.specs.Truncation.{weight2, reading}
 use Rattle.surface.specs.Carry.{carried}
-use Rattle.surface.specs.Patch.{stencil, subdivided, patch, patchReading}
+use Rattle.surface.specs.Patch.{stencil, subdivided, patch, evaluated, patchReading}
 use Rattle.surface.proofs.SplineCell.{cell-inside, cell-step, spline-in, spline-low, spline-far}
 use Rattle.surface.proofs.Parents.{parents2}
-use Rattle.surface.proofs.Carried.{factors, carried-reading}
+use Rattle.surface.proofs.Carried.{factors}
+use Rattle.surface.proofs.AnyLevel.{level-reading}
 
 -- a parent with a weight stands in the coarser patch: c is the half plus the entry's number
 stencil-inside : (c i : ℕ) → c ≤ 4 → i < 3 → 0 < stencil c i → c / 2 + i < 4
@@ -107,19 +108,24 @@ module _ (W H : ℕ) (lev : ℕ → ℕ → ℕ) (coef : ℕ → ℕ → ℕ →
       (coef (suc L) (cu (suc L) + k) (cv (suc L) + l)) t)
       (subdivided-parents L hL (patch-carried L (omega arith)) k l hk hl)
 
-  -- the exact reading is the patch's evaluation
+  -- the exact reading is the patch's evaluation, at each level from that of the point's quarter square on
+  pub evaluated-reading : (L : ℕ) → L ≤ 3 → min (lev (quarterOf W u) (quarterOf H v)) 3 ≤ L
+      → reading W H lev coef u v ≡ evaluated W H lev coef u v L
+  evaluated-reading L hL h =
+      let r = u - cu L * steps L in
+      let s = v - cv L * steps L in
+      level-reading W H lev coef u v pW pH hu hv L hL h
+      ∙ both-directions (functions W L) (functions H L) 4 4 (λ a. splineAt W L a u) (λ b. splineAt H L b v)
+      (λ k. piece k r (steps L)) (λ l. piece l s (steps L)) (λ k. cu L + k) (λ l. cv L + l)
+      (λ g. spline-window W L u pW hu hL g) (λ g. spline-window H L v pH hv hL g)
+      (λ a b. carried W H lev coef L a b)
+      ∙ sum2-cong 4 4
+      (λ k l. pos (piece k r (steps L) * piece l s (steps L)) *ℤ carried W H lev coef L (cu L + k) (cv L + l))
+      (λ k l. pos (piece k r (steps L) * piece l s (steps L)) *ℤ patch W H lev coef u v L k l)
+      (λ k l hk hl. ap (λ t. pos (piece k r (steps L) * piece l s (steps L)) *ℤ t)
+      (sym (patch-carried L hL k l hk hl)))
+
+  -- and so at level 3 everywhere
   pub patch-reading : reading W H lev coef u v ≡ patchReading W H lev coef u v
   unfolding patchReading
-  patch-reading =
-      let r = u - cu 3 * steps 3 in
-      let s = v - cv 3 * steps 3 in
-      carried-reading W H lev coef u v
-      ∙ both-directions (functions W 3) (functions H 3) 4 4 (λ a. splineAt W 3 a u) (λ b. splineAt H 3 b v)
-      (λ k. piece k r (steps 3)) (λ l. piece l s (steps 3)) (λ k. cu 3 + k) (λ l. cv 3 + l)
-      (λ g. spline-window W 3 u pW hu (lit≤ tt) g) (λ g. spline-window H 3 v pH hv (lit≤ tt) g)
-      (λ a b. carried W H lev coef 3 a b)
-      ∙ sum2-cong 4 4
-      (λ k l. pos (piece k r (steps 3) * piece l s (steps 3)) *ℤ carried W H lev coef 3 (cu 3 + k) (cv 3 + l))
-      (λ k l. pos (piece k r (steps 3) * piece l s (steps 3)) *ℤ patch W H lev coef u v 3 k l)
-      (λ k l hk hl. ap (λ t. pos (piece k r (steps 3) * piece l s (steps 3)) *ℤ t)
-      (sym (patch-carried 3 (lit≤ tt) k l hk hl)))
+  patch-reading = evaluated-reading 3 (lit≤ tt) (omega arith)

@@ -3,7 +3,7 @@
 use mathlib.Core.Path.{_≡_, refl, sym, ap, _∙_, subst}
 use mathlib.Core.Logic.{_↔_}
 use mathlib.Core.Bool.{Bool, true, false, not, _&&_, _||_, cond}
-use mathlib.Core.List.{List, [], _∷_, _++_}
+use mathlib.Core.List.{List, [], _∷_}
 use Prim.Native.Nat.{ℕ, zero, suc, _+_, _-_, _*_, _≤_, _<_}
 use native.Mathlib.Nat.{mul-comm}
 use native.Mathlib.Omega.{arith}
@@ -11,25 +11,29 @@ use lib.IntN.{ℤ, natAbs}
 use lib.Ieee.{Float}
 use lib.Dec.{leb, ltb, eqb, eqb·suc-zero}
 use borrow.Author.Tests.{ltb-false, eqb-true}
-use lib.ListN.{length, getD, drop, take, set, length-append, length-drop, length-set}
+use lib.ListN.{length, getD, drop, set, length-append, length-drop, length-set}
 use Rattle.finite.specs.Range.{grid}
 use Rattle.finite.proofs.Table.{length-grid}
 use Rattle.surface.specs.Sheet.{Box, goodSide, functions, quarters, onSheet}
-use Rattle.surface.specs.Support.{active}
+use Rattle.surface.specs.Support.{active, activeCount}
 use Rattle.surface.specs.Carry.{carriedOver}
 use Rattle.surface.specs.Table.{cause, _orElse_, treeOf, formed, levels, places, start, slots, place}
 use Rattle.surface.specs.Table.{coefficients, limit, sliceOf, withinLimits, passiveZero, regionCause, tableCause}
 use Rattle.surface.specs.FloatReading.{FloatMeets}
-use Rattle.surface.specs.Calls.{Answer, refused, gives, answer, afterwards, put, written, lengthCause}
-use Rattle.surface.specs.Calls.{treeOutCause, pointCause, freshCause, freshOutcome, freshCoefficients}
-use Rattle.surface.specs.Calls.{newLevels, newTree, newCoefficients, insertCause, insertOutcome, setCause}
+use Rattle.surface.specs.Calls.{Answer, refused, gives, answer, afterwards, put, written, done, lengthCause}
+use Rattle.surface.specs.Calls.{treeOutCause, outputsCause, pointCause, freshOutcome, freshCoefficients}
+use Rattle.surface.specs.Calls.{newLevels, newTree, newCoefficients, refinementCause}
+use Rattle.surface.specs.Calls.{insertCause, insertOutcome, setCause}
 use Rattle.surface.specs.Calls.{setOutcome, activityBytes, activityCause, activityOutcome, leastOutcome}
 use Rattle.surface.specs.Calls.{readingCause, exactOutcome, displayOutcome, costOutcome, indexFits, index}
-use Rattle.surface.specs.TableFile.{lengthAt, fieldOr, field, loaded, activeCount, allWithin, Loaded}
-use Rattle.surface.specs.TableFile.{File, declined, contains, fileOr, inField, levelFields, fileContents}
+use Rattle.surface.specs.Fields.{Judged, declined, contains, unless, Part, holds, inPart, lengthAt, field}
+use Rattle.surface.specs.Fields.{checked, allWithin}
+use Rattle.surface.specs.TableFile.{sidesIn, goodSides, sidesField, treeField, loaded, levelLoaded}
+use Rattle.surface.specs.TableFile.{levelField, levelFields, Loaded, File, endCause, fileContents}
 use Rattle.surface.specs.TableFile.{fileOutcomeOf, fileOutcome}
 use Rattle.surface.specs.Demands.{among, RefusesWith, WritesAllOrNothing, WritesSliceOrNothing, Refusals}
-use Rattle.surface.proofs.TableLaws.{orElse-none, cause-none, slice-length, start-step}
+use Rattle.surface.proofs.TableLaws.{slice-length}
+use Rattle.surface.proofs.Causes.{orElse-assoc, orElse-none, cause-none, cause-off}
 
 -- ---- answers
 
@@ -119,23 +123,41 @@ all-or-nothing js c a tree numbers treeOut numbersOut o ht hn =
 
 slice-or-nothing : {A : Type 0} (js : List ℕ) (c : ℕ) (lent new : List A) → OneOf c js →
     (c ≡ 0 → length new ≡ length lent)
-    → WritesSliceOrNothing js (record { result = answer c tt; after = afterwards c lent new }) lent
+    → WritesSliceOrNothing js (done c new lent) lent
 slice-or-nothing js c lent new o h =
     record { number = sent c tt js o; refusal = λ n e. kept c tt lent new n e; lengths = length-after c lent new h }
 
-pub cause-off : (j : ℕ) (t : Bool) → cause (suc j) t ≡ 0 → t ≡ false
-cause-off j true e = absurd (omega arith)
-cause-off j false e = refl
+-- ---- the outputs of a call that writes a table: 16 and 17, after other causes
 
--- what the last two causes exclude
-pub outputs : (n : ℕ) (tree treeOut : List ℕ) (numbersOut : List ℤ) → lengthCause n numbersOut orElse treeOutCause
-    tree treeOut ≡ 0
-    → (length tree ≤ length treeOut) × (length numbersOut ≡ n)
-outputs n tree treeOut numbersOut e =
-    let e2 = orElse-none (lengthCause n numbersOut) (treeOutCause tree treeOut) e in (
+one-outputs : (js : List ℕ) → OneOf 16 js → OneOf 17 js → (W H : ℕ) (tree treeOut : List ℕ) (numbersOut : List ℤ)
+    → OneOf (outputsCause W H tree treeOut numbersOut) js
+one-outputs js h16 h17 W H tree treeOut numbersOut =
+    one-or (lengthCause (slots W H) numbersOut) (treeOutCause tree treeOut) js
+    (one-cause 16 (not (eqb (length numbersOut) (slots W H))) js h16)
+    (one-cause 17 (ltb (length treeOut) (length tree)) js h17)
+
+-- what they exclude
+pub outputs : (W H : ℕ) (tree treeOut : List ℕ) (numbersOut : List ℤ) → outputsCause W H tree treeOut numbersOut ≡ 0
+    → (length tree ≤ length treeOut) × (length numbersOut ≡ slots W H)
+outputs W H tree treeOut numbersOut e =
+    let e2 = orElse-none (lengthCause (slots W H) numbersOut) (treeOutCause tree treeOut) e in (
       ltb-false (length treeOut) (length tree) (cause-off 16 (ltb (length treeOut) (length tree)) (e2 .1)),
-      eqb-true (length numbersOut) n (cause-none 15 (eqb (length numbersOut) n) (e2 .0)),
+      eqb-true (length numbersOut) (slots W H) (cause-none 15 (eqb (length numbersOut) (slots W H)) (e2 .0)),
     )
+
+-- a call that writes a whole slice for its sheet
+table-or-nothing : {A : Type 0} (js : List ℕ) (c W H : ℕ) (a : A) (tree : List ℕ) (numbers : List ℤ)
+    (treeOut : List ℕ) (numbersOut : List ℤ) → OneOf c js → OneOf 16 js → OneOf 17 js → length numbers ≡ slots W H
+    → WritesAllOrNothing js (written (c orElse outputsCause W H tree treeOut numbersOut) a tree numbers treeOut
+    numbersOut)
+    treeOut numbersOut
+table-or-nothing js c W H a tree numbers treeOut numbersOut o h16 h17 l =
+    let last = outputsCause W H tree treeOut numbersOut in
+    let none : c orElse last ≡ 0 → (length tree ≤ length treeOut) × (length numbersOut ≡ slots W H) =
+    λ e. outputs W H tree treeOut numbersOut (orElse-none c last e .1) in
+    all-or-nothing js (c orElse last) a tree numbers treeOut numbersOut
+    (one-or c last js o (one-outputs js h16 h17 W H tree treeOut numbersOut)) (λ e. none e .0)
+    (λ e. l ∙ sym (none e .1))
 
 -- ---- the calls
 
@@ -146,21 +168,13 @@ fresh-refusals W H number treeOut numbersOut =
     let js : List ℕ = 1 ∷ 10 ∷ 16 ∷ 17 ∷ [] in
     let b1 = not (goodSide W && goodSide H) in
     let b10 = ltb (limit 0) (natAbs number) in
-    let c16 = lengthCause (slots W H) numbersOut in
-    let c17 = treeOutCause (0 ∷ []) treeOut in
-    let out : freshCause W H number treeOut numbersOut ≡ 0 → c16 orElse c17 ≡ 0 =
-    λ e. orElse-none (cause 10 b10) (c16 orElse c17)
-    (orElse-none (cause 1 b1) (cause 10 b10 orElse c16 orElse c17) e .1) .1 in
-    all-or-nothing js (freshCause W H number treeOut numbersOut) 1 (0 ∷ []) (sliceOf W H (freshCoefficients number))
-    treeOut
-    numbersOut
-    (one-or (cause 1 b1) (cause 10 b10 orElse c16 orElse c17) js (one-cause 1 b1 js refl)
-    (one-or (cause 10 b10) (c16 orElse c17) js (one-cause 10 b10 js refl)
-    (one-or c16 c17 js (one-cause 16 (not (eqb (length numbersOut) (slots W H))) js refl)
-    (one-cause 17 (ltb (length treeOut) 1) js refl))))
-    (λ e. outputs (slots W H) (0 ∷ []) treeOut numbersOut (out e) .0)
-    (λ e. slice-length W H (freshCoefficients number) ∙ sym
-    (outputs (slots W H) (0 ∷ []) treeOut numbersOut (out e) .1))
+    let slice = sliceOf W H (freshCoefficients number) in
+    subst
+    (λ c. WritesAllOrNothing {A = ℕ} js (written c 1 (0 ∷ []) slice treeOut numbersOut) treeOut numbersOut)
+    (orElse-assoc (cause 1 b1) (cause 10 b10) (outputsCause W H (0 ∷ []) treeOut numbersOut))
+    (table-or-nothing js (cause 1 b1 orElse cause 10 b10) W H 1 (0 ∷ []) slice treeOut numbersOut
+    (one-or (cause 1 b1) (cause 10 b10) js (one-cause 1 b1 js refl) (one-cause 10 b10 js refl)) refl refl
+    (slice-length W H (freshCoefficients number)))
 
 insert-refusals : (W H : ℕ) (t : List ℕ) (cs : List ℤ) (box : Box) (level : ℕ) (treeOut : List ℕ) (numbersOut : List ℤ)
     → WritesAllOrNothing (1 ∷ 2 ∷ 3 ∷ 4 ∷ 5 ∷ 7 ∷ 8 ∷ 16 ∷ 17 ∷ [])
@@ -169,27 +183,16 @@ insert-refusals : (W H : ℕ) (t : List ℕ) (cs : List ℤ) (box : Box) (level 
 unfolding insertOutcome insertCause newCoefficients
 insert-refusals W H t cs box level treeOut numbersOut =
     let js : List ℕ = 1 ∷ 2 ∷ 3 ∷ 4 ∷ 5 ∷ 7 ∷ 8 ∷ 16 ∷ 17 ∷ [] in
-    let c0 = tableCause W H t cs in
     let b7 = not (ltb (box .u0) (box .u1) && ltb (box .v0) (box .v1) &&
     (leb (box .u1) (quarters W) && leb (box .v1) (quarters H))) in
     let b8 = not (leb 1 level && leb level 3) in
     let tree = newTree t box level in
-    let c16 = lengthCause (slots W H) numbersOut in
-    let c17 = treeOutCause tree treeOut in
     let new = carriedOver W H (levels t) (newLevels t box level) (coefficients W H cs) in
-    let out : insertCause W H t cs box level treeOut numbersOut ≡ 0 → c16 orElse c17 ≡ 0 =
-    λ e. orElse-none (cause 8 b8) (c16 orElse c17)
-    (orElse-none (cause 7 b7) (cause 8 b8 orElse c16 orElse c17)
-    (orElse-none c0 (cause 7 b7 orElse cause 8 b8 orElse c16 orElse c17) e .1) .1) .1 in
-    all-or-nothing js (insertCause W H t cs box level treeOut numbersOut) (length tree) tree (sliceOf W H new)
-    treeOut numbersOut
-    (one-or c0 (cause 7 b7 orElse cause 8 b8 orElse c16 orElse c17) js (one-table js refl refl refl refl refl W H t cs)
-    (one-or (cause 7 b7) (cause 8 b8 orElse c16 orElse c17) js (one-cause 7 b7 js refl)
-    (one-or (cause 8 b8) (c16 orElse c17) js (one-cause 8 b8 js refl)
-    (one-or c16 c17 js (one-cause 16 (not (eqb (length numbersOut) (slots W H))) js refl)
-    (one-cause 17 (ltb (length treeOut) (length tree)) js refl)))))
-    (λ e. outputs (slots W H) tree treeOut numbersOut (out e) .0)
-    (λ e. slice-length W H new ∙ sym (outputs (slots W H) tree treeOut numbersOut (out e) .1))
+    table-or-nothing js (refinementCause W H t cs box level) W H (length tree) tree (sliceOf W H new) treeOut
+    numbersOut
+    (one-or (tableCause W H t cs) (cause 7 b7 orElse cause 8 b8) js (one-table js refl refl refl refl refl W H t cs)
+    (one-or (cause 7 b7) (cause 8 b8) js (one-cause 7 b7 js refl) (one-cause 8 b8 js refl))) refl refl
+    (slice-length W H new)
 
 set-refusals : (W H : ℕ) (t : List ℕ) (cs : List ℤ) (L : ℕ) (i j number : ℤ)
     → WritesSliceOrNothing (1 ∷ 2 ∷ 3 ∷ 4 ∷ 5 ∷ 8 ∷ 9 ∷ 10 ∷ []) (setOutcome W H t cs L i j number) cs
@@ -252,78 +255,98 @@ float-refused (gives y) (gives x) e n = (
 abbrev js-file : List ℕ
 js-file = 1 ∷ 2 ∷ 4 ∷ 12 ∷ 13 ∷ 14 ∷ 15 ∷ 16 ∷ 17 ∷ []
 
--- a declined file has one of the numbers, and one that is not fills its slice
-data Judged : File → Type 0 where
-  bad : {n : ℕ} → among n js-file ≡ true → Judged (declined n)
-  good : {f : Loaded} → length (f .numbers) ≡ slots (f .W) (f .H) → Judged (contains f)
+-- a refusal has one of the numbers, and what is held has a property
+data Told (A : Type 0) (P : A → Type 0) : Judged A → Type 0 where
+  bad : {n : ℕ} → among n js-file ≡ true → Told A P (declined n)
+  good : {a : A} → P a → Told A P (contains a)
 
 positive : (c : ℕ) → OneOf (suc c) js-file → among (suc c) js-file ≡ true
 positive c o = rw (eqb·suc-zero c) at o
 
-judged-or : (c : ℕ) (f : File) → OneOf c js-file → Judged f → Judged (fileOr c f)
-judged-or zero f o h = h
-judged-or (suc c) f o h = bad (positive c o)
+module _ {A : Type 0} (P : A → Type 0) where
+  told-unless : (c : ℕ) (j : Judged A) → OneOf c js-file → Told A P j → Told A P (unless c j)
+  told-unless zero j o h = h
+  told-unless (suc c) j o h = bad (positive c o)
 
-judged-field : (tag : ℕ) (fits : ℕ → Bool) (s : List ℕ) (f : List ℕ → List ℕ → File) →
-    ((b rest : List ℕ) → Judged (f b rest))
-    → Judged (inField (field tag fits s) f)
+  told-in : {B : Type 0} (Q : Part B → Type 0) (j : Judged (Part B)) (f : B → List ℕ → Judged A) → Told (Part B) Q j
+      → ((p : Part B) → Q p → Told A P (f (p .content) (p .rest))) → Told A P (inPart j f)
+  told-in Q (declined n) f (bad m) h = bad m
+  told-in Q (contains p) f (good q) h = h p q
+
+told-field : (tag low high : ℕ) (s : List ℕ) → Told (Part (List ℕ)) (λ p. Unit) (field tag low high s)
 unfolding field
-judged-field tag fits s f h =
+told-field tag low high s =
     let n = lengthAt s in
     let b1 = ltb (length s) 3 in
     let b2 = not (eqb (getD s 0 0) tag) in
-    let b3 = not (fits n) in
+    let b3 = not (leb low n && leb n high) in
     let b4 = ltb (length s) (3 + n) in
-    go (cause 12 b1 orElse cause 13 b2 orElse cause 14 b3 orElse cause 12 b4) (take n (drop 3 s)) (drop (3 + n) s)
+    told-unless (λ p. Unit) (cause 12 b1 orElse cause 13 b2 orElse cause 14 b3 orElse cause 12 b4) _
     (one-or (cause 12 b1) (cause 13 b2 orElse cause 14 b3 orElse cause 12 b4) js-file (one-cause 12 b1 js-file refl)
     (one-or (cause 13 b2) (cause 14 b3 orElse cause 12 b4) js-file (one-cause 13 b2 js-file refl)
     (one-or (cause 14 b3) (cause 12 b4) js-file (one-cause 14 b3 js-file refl) (one-cause 12 b4 js-file refl))))
+    (good tt)
+
+-- the contents of a field have a number of their own
+told-checked : {A : Type 0} (P : Part A → Type 0) (tag low high n : ℕ) (ok : List ℕ → Bool) (of : List ℕ → A)
+    (s : List ℕ) → OneOf n js-file → ((b rest : List ℕ) → P (record { content = of b; rest = rest }))
+    → Told (Part A) P (checked (field tag low high s) n ok of)
+told-checked P tag low high n ok of s m h =
+    told-in P (λ p. Unit) (field tag low high s) _ (told-field tag low high s)
+    λ p u. told-unless P (cause n (not (ok (p .content)))) _ (one-cause n (not (ok (p .content))) js-file m)
+    (good (h (p .content) (p .rest)))
+
+-- the levels below n fill their part of the slice
+abbrev Fills : ℕ → ℕ → ℕ → Part (List ℤ) → Type 0
+Fills W H n p = length (p .content) ≡ start W H n
+
+told-levels : (W H : ℕ) (lev : ℕ → ℕ → ℕ) (n : ℕ) (s : List ℕ)
+    → Told (Part (List ℤ)) (Fills W H n) (levelFields W H lev n s)
+unfolding levelFields levelField start
+told-levels W H lev zero s = good refl
+told-levels W H lev (suc L) s =
+    let k = activeCount W H lev L in
+    let sized : Part (List ℤ) → Type 0 = λ p. length (p .content) ≡ places W H L in
+    told-in (Fills W H (suc L)) (Fills W H L) (levelFields W H lev L s) _ (told-levels W H lev L s)
+    λ before e. told-in (Fills W H (suc L)) sized (levelField W H lev L (before .rest)) _
+    (told-checked sized (16 + L) (5 * k) (5 * k) 4 (allWithin (limit L) k) (levelLoaded W H lev L) (before .rest) refl
+    λ b rest. length-grid (functions W L) (functions H L) (loaded W H lev L b)
+    ∙ mul-comm (functions H L) (functions W L))
+    λ p q. good (length-append (before .content) (p .content) ∙ omega (arith, e, q))
+
+pub levels-size : (W H : ℕ) (lev : ℕ → ℕ → ℕ) (n : ℕ) (s : List ℕ) (cs : List ℤ) (rest : List ℕ)
+    → levelFields W H lev n s ≡ holds cs rest → length cs ≡ start W H n
+levels-size W H lev n s cs rest e = go (levelFields W H lev n s) (told-levels W H lev n s) e
   where
-    go : (c : ℕ) (b rest : List ℕ) → OneOf c js-file → Judged (inField (fieldOr c b rest) f)
-    go zero b rest o = h b rest
-    go (suc c) b rest o = bad (positive c o)
+    go : (j : Judged (Part (List ℤ))) → Told (Part (List ℤ)) (Fills W H n) j → j ≡ holds cs rest
+        → length cs ≡ start W H n
+    go (declined m) t e = absurd (let z : _≡_ {A = ℕ} 0 1 = cc in omega arith)
+    go (contains p) (good h) e =
+        let same : p ≡ record { content = cs; rest = rest } = cc in subst (Fills W H n) same h
 
-judged-levels : (W H : ℕ) (t : List ℕ) (n L : ℕ) (before : List ℤ) (s : List ℕ) → n + L ≡ 4 → length before ≡ start
-    W H L
-    → Judged (levelFields W H t n L before s)
-unfolding levelFields
-judged-levels W H t zero L before s e h =
-    let four : L ≡ 4 = omega arith in
-    judged-or (cause 15 (ltb 0 (length s))) _ (one-cause 15 (ltb 0 (length s)) js-file refl)
-    (good (h ∙ ap (λ k. start W H k) four))
-judged-levels W H t (suc n) L before s e h =
-    let k = activeCount W H (levels t) L in
-    judged-field (16 + L) (λ m. eqb m (5 * k)) s _ λ b rest.
-    let part : ℕ → ℕ → ℤ = λ a c. loaded W H (levels t) L b a c in
-    judged-or (cause 4 (not (allWithin L k b))) _ (one-cause 4 (not (allWithin L k b)) js-file refl)
-    (judged-levels W H t n (suc L) (before ++ grid (functions W L) (functions H L) part) rest (omega arith)
-    (omega (
-      arith,
-      length-append before (grid (functions W L) (functions H L) part),
-      length-grid (functions W L)
-          (functions H L) part,
-      mul-comm (functions H L) (functions W L),
-      start-step W H L,
-    )))
-
-judged-file : (s : List ℕ) → Judged (fileContents s)
-unfolding fileContents start
-judged-file s =
-    judged-field 1 (λ n. eqb n 2) s _ λ sides rest.
-    let W = getD sides 0 0 in
-    let H = getD sides 1 0 in
-    let b1 = not (goodSide W && goodSide H) in
-    judged-or (cause 1 b1) _ (one-cause 1 b1 js-file refl)
-    (judged-field 2 (λ n. leb 1 n && leb n 1365) rest _ λ t rest2.
-    let b2 = not (formed W H (treeOf t)) in
-    judged-or (cause 2 b2) _ (one-cause 2 b2 js-file refl) (judged-levels W H t 4 0 [] rest2 refl refl))
+-- a file that is not declined fills its slice
+told-file : (s : List ℕ) → Told Loaded (λ f. length (f .numbers) ≡ slots (f .W) (f .H)) (fileContents s)
+unfolding fileContents sidesField treeField
+told-file s =
+    let filled : Loaded → Type 0 = λ f. length (f .numbers) ≡ slots (f .W) (f .H) in
+    told-in filled (λ p. Unit) (sidesField s) _
+    (told-checked (λ p. Unit) 1 2 2 1 (λ b. goodSides (sidesIn b)) sidesIn s refl λ b rest. tt)
+    λ p u.
+    let W = p .content .W in
+    let H = p .content .H in
+    told-in filled (λ p. Unit) (treeField W H (p .rest)) _
+    (told-checked (λ p. Unit) 2 1 1365 2 (λ t. formed W H (treeOf t)) (λ t. t) (p .rest) refl λ b rest. tt)
+    λ t v. told-in filled (Fills W H 4) (levelFields W H (levels (t .content)) 4 (t .rest)) _
+    (told-levels W H (levels (t .content)) 4 (t .rest))
+    λ cs h. told-unless filled (endCause (cs .rest)) _ (one-cause 15 (ltb 0 (length (cs .rest))) js-file refl) (good h)
 
 file-refusals : (s treeOut : List ℕ) (numbersOut : List ℤ)
     → WritesAllOrNothing js-file (fileOutcome s treeOut numbersOut) treeOut numbersOut
 unfolding fileOutcome
-file-refusals s treeOut numbersOut = go (fileContents s) (judged-file s)
+file-refusals s treeOut numbersOut = go (fileContents s) (told-file s)
   where
-    go : (f : File) → Judged f → WritesAllOrNothing js-file (fileOutcomeOf f treeOut numbersOut) treeOut numbersOut
+    go : (f : File) → Told Loaded (λ f. length (f .numbers) ≡ slots (f .W) (f .H)) f
+        → WritesAllOrNothing js-file (fileOutcomeOf f treeOut numbersOut) treeOut numbersOut
     go (declined n) (bad h) =
         record {
           number = λ m e. let same : n ≡ m = cc in subst (λ k. among k js-file ≡ true) same h;
@@ -331,14 +354,7 @@ file-refusals s treeOut numbersOut = go (fileContents s) (judged-file s)
           lengths = (refl, refl);
         }
     go (contains f) (good h) =
-        let n = slots (f .W) (f .H) in
-        let c16 = lengthCause n numbersOut in
-        let c17 = treeOutCause (f .tree) treeOut in
-        all-or-nothing js-file (c16 orElse c17) _ (f .tree) (f .numbers) treeOut numbersOut
-        (one-or c16 c17 js-file (one-cause 16 (not (eqb (length numbersOut) n)) js-file refl)
-        (one-cause 17 (ltb (length treeOut) (length (f .tree))) js-file refl))
-        (λ e. outputs n (f .tree) treeOut numbersOut e .0)
-        (λ e. h ∙ sym (outputs n (f .tree) treeOut numbersOut e .1))
+        table-or-nothing js-file 0 (f .W) (f .H) _ (f .tree) (f .numbers) treeOut numbersOut refl refl refl h
 
 -- ---- all of them
 

@@ -7,12 +7,12 @@ use native.Mathlib.Decide.{decLe}
 use native.Mathlib.Nat.{le-refl, le-trans, mul-le-mul-right}
 use native.Mathlib.Omega.{arith}
 use borrow.Author.Tests.{eqb-true, eq-eqb}
+use Rattle.finite.proofs.Tests.{both, and-intro, lts-true, lts-intro}
 use Rattle.surface.specs.Sheet.{eighths, functions, quarters}
 use Rattle.surface.specs.Support.{lowEnd, highEnd, shares, leastUnder, active}
 use Rattle.surface.specs.Demands.{SupportIn, Selected}
 use Rattle.surface.proofs.SplineWeight.{eighths-pos}
 use Rattle.surface.proofs.SplineCell.{cells-steps}
-use Rattle.surface.proofs.Least.{both, and-intro, lts-true, lts-intro}
 use Rattle.surface.proofs.Least.{leastWhere-le, le-leastWhere, leastUnder-le-3}
 
 -- ---- the level 3 cells of a cut support along one direction, and the quarters that they lie in

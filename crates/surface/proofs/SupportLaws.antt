@@ -9,6 +9,7 @@ use native.Mathlib.Omega.{arith}
 use lib.Dec.{T}
 use lib.IntN.{ℤ, pos, _*ℤ_}
 use Rattle.finite.proofs.Sum.{sum2-cong, sum2-product}
+use Rattle.finite.proofs.Tests.{and-intro, lts-true, lts-intro}
 use Rattle.surface.specs.Sheet.{functions, steps}
 use Rattle.surface.specs.Spline.{cellOf, piece, splineAt}
 use Rattle.surface.specs.Support.{lowEnd, highEnd, holdsAlong, holds, inRegion}
@@ -17,7 +18,6 @@ use Rattle.surface.proofs.SplinePiece.{piece-0, piece-1, piece-2, piece
 use Rattle.surface.proofs.SplineCell.{cell-point}
 use Rattle.surface.proofs.SplineTwoScale.{spline-holds}
 use Rattle.surface.proofs.TwoScaleSum.{two-scale-sum}
-use Rattle.surface.proofs.Least.{and-intro, lts-true, lts-intro}
 
 -- ---- where a spline is not zero
 

@@ -1,7 +1,7 @@
 -- What it is for a table to be acceptable, fact by fact, and the slice that holds given coefficients.
 use mathlib.Core.Path.{_≡_, refl, sym, ap, _∙_, subst}
 use mathlib.Core.Bool.{Bool, true, false, not, _&&_, _||_}
-use mathlib.Core.List.{List, [], _∷_, _++_}
+use mathlib.Core.List.{List, [], _∷_, _++_, append-assoc, append-nil}
 use Prim.Native.Nat.{ℕ, zero, suc, _+_, _-_, _*_, _≤_, _<_}
 use native.Mathlib.Nat.{mul-comm, add-zero, zero-add, suc-add, add-suc, le-refl}
 use native.Mathlib.Decide.{decLt}
@@ -13,35 +13,14 @@ use lib.ListN.{length, getD, length-append, List·getD-append}
 use lib.Seq.{getD-append-add}
 use Rattle.finite.specs.Range.{every2, grid}
 use Rattle.finite.proofs.Table.{length-grid, getD-grid, place-below, place-inj}
-use Rattle.finite.proofs.Tests.{every-true, every-intro, every2-true, every2-intro}
+use Rattle.finite.proofs.Tests.{every-true, every-intro, every2-true, every2-intro, both, and-intro}
 use Rattle.surface.specs.Sheet.{goodSide, functions}
 use Rattle.surface.specs.Quadtree.{Quadtree, Parsed, none, found, parse, wellFormed, levelAt}
 use Rattle.surface.specs.Support.{active}
 use Rattle.surface.specs.Table.{cause, _orElse_, treeOf, formed, levels, places, start, slots, place}
 use Rattle.surface.specs.Table.{coefficients, sliceFrom, sliceOf, limit, everywhere, withinLimits, passiveZero}
 use Rattle.surface.specs.Table.{regionCause, tableCause, Acceptable}
-use Rattle.surface.proofs.Least.{both, and-intro}
-
--- ---- causes
-
-pub orElse-none : (m n : ℕ) → m orElse n ≡ 0 → (m ≡ 0) × (n ≡ 0)
-orElse-none zero n e = (refl, e)
-orElse-none (suc m) n e = absurd (omega arith)
-
-pub none-orElse : (m n : ℕ) → m ≡ 0 → n ≡ 0 → m orElse n ≡ 0
-none-orElse m n p q = rw (p, q)
-
--- the first cause, where it applies
-pub orElse-first : (m n : ℕ) → (m ≡ 0 → ⊥) → m ≡ m orElse n
-orElse-first zero n h = absurd (h refl)
-orElse-first (suc m) n h = refl
-
-pub cause-none : (n : ℕ) (t : Bool) → cause (suc n) (not t) ≡ 0 → t ≡ true
-cause-none n true e = refl
-cause-none n false e = absurd (omega arith)
-
-pub none-cause : (n : ℕ) (t : Bool) → t ≡ true → cause n (not t) ≡ 0
-none-cause n t e = rw e
+use Rattle.surface.proofs.Causes.{orElse-none, none-orElse, cause-none, none-cause}
 
 -- ---- sides and trees
 
@@ -114,6 +93,15 @@ module _ (W H : ℕ) (f : ℕ → ℕ → ℕ → ℤ) where
   pub slice-length : length (sliceOf W H f) ≡ slots W H
   unfolding start
   slice-length = omega (arith, slice-from-length 4 0)
+
+  -- with one level more at the end
+  pub slice-more : (n L : ℕ) → sliceFrom W H f L (suc n) ≡ sliceFrom W H f L n ++ part (L + n)
+  unfolding sliceFrom
+  slice-more zero L = append-nil (part L) ∙ ap part (sym (add-zero L))
+  slice-more (suc n) L =
+      ap (λ l. part L ++ l) (slice-more n (suc L))
+      ∙ sym (append-assoc (part L) (sliceFrom W H f (suc L) n) (part (suc L + n)))
+      ∙ ap (λ k. sliceFrom W H f L (suc n) ++ part k) (omega arith)
 
   -- a place of the first part
   in-part : (n L a b : ℕ) → a < functions W L → b < functions H L

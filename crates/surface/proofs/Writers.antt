@@ -6,24 +6,26 @@ use Prim.Native.Nat.{ℕ, zero, suc, _/_, _≤_, _<_}
 use native.Mathlib.Decide.{ℕ-discrete}
 use native.Mathlib.Omega.{arith}
 use lib.IntN.{ℤ, pos, negsuc, natAbs, _+ℤ_}
-use lib.Dec.{ltb, T, leb→le}
+use lib.Dec.{ltb, T}
 use lib.Signed.{leZ, ltZ}
-use borrow.Author.Tests.{ltb-true, ltb-false, eq-eqb}
+use borrow.Author.Tests.{ltb-true, ltb-false, leb-true, eq-eqb}
 use lib.ListN.{length, getD, take, drop, set, length-set}
 use lib.Seq.{take-append-seam, getD-set-same, getD-set-other}
+use Rattle.finite.proofs.Tests.{both, and-intro}
 use Rattle.surface.specs.Sheet.{goodSide, cells, functions}
 use Rattle.surface.specs.Quadtree.{leaf, parse, wellFormed, levelAt}
 use Rattle.surface.specs.Support.{lowEnd, shares, leastUnder, active}
-use Rattle.surface.specs.Table.{cause, _orElse_, levels, slots, place, coefficients, sliceOf, limit, tableCause}
+use Rattle.surface.specs.Table.{cause, _orElse_, levels, place, coefficients, sliceOf, limit, tableCause}
 use Rattle.surface.specs.Table.{Acceptable}
-use Rattle.surface.specs.Calls.{gives, lengthCause, treeOutCause, freshCause}
+use Rattle.surface.specs.Calls.{gives, outputsCause, freshCause}
 use Rattle.surface.specs.Calls.{freshCoefficients, freshOutcome, indexFits, index, setCause, setOutcome}
 use Rattle.surface.specs.Demands.{WritesAcceptable}
-use Rattle.surface.proofs.Least.{both, and-intro, leastWhere-le}
+use Rattle.surface.proofs.Least.{leastWhere-le}
 use Rattle.surface.proofs.Selection.{touches, cell-shares}
-use Rattle.surface.proofs.TableLaws.{orElse-none, cause-none, good-side, Sound, sound, acceptable}
+use Rattle.surface.proofs.TableLaws.{good-side, Sound, sound, acceptable}
 use Rattle.surface.proofs.TableLaws.{slice-length, slice-coefficient, place-in-slice, place-unique}
-use Rattle.surface.proofs.Refusals.{answer-gives, cause-off}
+use Rattle.surface.proofs.Refusals.{answer-gives}
+use Rattle.surface.proofs.Causes.{orElse-none, cause-none, cause-off}
 
 -- ---- fresh
 
@@ -72,7 +74,7 @@ unfolding freshOutcome
 fresh-acceptable W H number treeOut numbersOut n e =
     let c1 = cause 1 (not (goodSide W && goodSide H)) in
     let c10 = cause 10 (ltb (limit 0) (natAbs number)) in
-    let rest = lengthCause (slots W H) numbersOut orElse treeOutCause (0 ∷ []) treeOut in
+    let rest = outputsCause W H (0 ∷ []) treeOut numbersOut in
     let g = answer-gives (freshCause W H number treeOut numbersOut) 1 n e in
     let e1 = orElse-none c1 (c10 orElse rest) (g .0) in
     let e10 = orElse-none c10 rest (e1 .1) in
@@ -87,18 +89,19 @@ fresh-acceptable W H number treeOut numbersOut n e =
 -- ---- set
 
 -- an index that fits is one of the level's functions
-index-below : (n L : ℕ) (i : ℤ) → indexFits n L i ≡ true → index i < functions n L
-index-below n L (pos m) e =
-    let h = ltb-true m (cells n L) (both (leZ (negsuc 2) (pos m)) (ltZ (pos m) (pos (cells n L))) e .1) in omega arith
-index-below n L (negsuc m) e =
-    let h : m ≤ 2 =
-    leb→le m 2 (subst T (sym (both (leZ (negsuc 2) (negsuc m)) (ltZ (negsuc m) (pos (cells n L))) e .0)) tt) in
-    small m h
+pub index-of : (n L : ℕ) (i : ℤ) → indexFits n L i ≡ true
+    → (i +ℤ pos 3 ≡ pos (index i)) × (index i < functions n L)
+index-of n L (pos m) e =
+    let h = ltb-true m (cells n L) (both (leZ (negsuc 2) (pos m)) (ltZ (pos m) (pos (cells n L))) e .1) in
+    (refl, omega arith)
+index-of n L (negsuc m) e =
+    small m (leb-true m 2 (both (leZ (negsuc 2) (negsuc m)) (ltZ (negsuc m) (pos (cells n L))) e .0))
   where
-    small : (m : ℕ) → m ≤ 2 → natAbs (negsuc m +ℤ pos 3) < functions n L
-    small zero h = omega arith
-    small (suc zero) h = omega arith
-    small (suc (suc zero)) h = omega arith
+    small : (m : ℕ) → m ≤ 2
+        → (negsuc m +ℤ pos 3 ≡ pos (index (negsuc m))) × (index (negsuc m) < functions n L)
+    small zero h = (refl, omega arith)
+    small (suc zero) h = (refl, omega arith)
+    small (suc (suc zero)) h = (refl, omega arith)
     small (suc (suc (suc m))) h = absurd (omega arith)
 
 -- one active place set to a number within the limit
@@ -159,8 +162,8 @@ set-acceptable W H t cs L i j number e =
     let ij = both (indexFits W L i) (indexFits H L j) (f .0) in
     rw g
     (acceptable W H t (set cs (place W H L (index i) (index j)) number)
-    (set-sound W H t cs (sound W H t cs (e0 .0)) L (index i) (index j) number (omega arith) (index-below W L i (ij .0))
-    (index-below H L j (ij .1)) (f .1) (ltb-false (limit L) (natAbs number) (cause-off 9 b10 (e9 .1)))))
+    (set-sound W H t cs (sound W H t cs (e0 .0)) L (index i) (index j) number (omega arith) (index-of W L i (ij .0) .1)
+    (index-of H L j (ij .1) .1) (f .1) (ltb-false (limit L) (natAbs number) (cause-off 9 b10 (e9 .1)))))
 
 -- Acceptable tables are what the writing calls leave.
 pub writes-acceptable : WritesAcceptable

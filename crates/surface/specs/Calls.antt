@@ -1,5 +1,6 @@
 -- Document 01, "Calls and what they decline": the whole outcome of each call on every input, as the answer and what
 -- each lent buffer then holds. File reading is in TableFile.
+use mathlib.Core.Path.{_≡_}
 use mathlib.Core.Bool.{Bool, not, _&&_, cond}
 use mathlib.Core.List.{List, [], _∷_, _++_}
 use Prim.Native.Nat.{ℕ, zero, suc, _+_, _*_, _/_}
@@ -51,6 +52,10 @@ written c a tree numbers treeOut numbersOut =
       numbers = afterwards c numbersOut numbers;
     }
 
+-- An answer and both outputs are those of an outcome.
+abbrev pub TableMeets : {A : Type 0} → Written A → Answer A → List ℕ → List ℤ → Type 0
+TableMeets o result tree numbers = (result ≡ o .result) × (tree ≡ o .tree) × (numbers ≡ o .numbers)
+
 -- ---- causes
 
 -- 6: "point off the sheet"
@@ -71,14 +76,17 @@ lengthCause n out = cause 16 (not (eqb (length out) n))
 abbrev pub treeOutCause : List ℕ → List ℕ → ℕ
 treeOutCause tree out = cause 17 (ltb (length out) (length tree))
 
+-- 16, then 17, of the outputs of a call that writes a table with this tree
+abbrev pub outputsCause : ℕ → ℕ → List ℕ → List ℕ → List ℤ → ℕ
+outputsCause W H tree treeOut numbersOut = lengthCause (slots W H) numbersOut orElse treeOutCause tree treeOut
+
 -- ---- fresh table: "tree the one byte 0, all level 0 coefficients one number"; 10 is "number past its limit"
 
 abbrev pub freshCause : ℕ → ℕ → ℤ → List ℕ → List ℤ → ℕ
 freshCause W H number treeOut numbersOut =
     cause 1 (not (goodSide W && goodSide H))
     orElse cause 10 (ltb (limit 0) (natAbs number))
-    orElse lengthCause (slots W H) numbersOut
-    orElse treeOutCause (0 ∷ []) treeOut
+    orElse outputsCause W H (0 ∷ []) treeOut numbersOut
 
 abbrev pub freshCoefficients : ℤ → ℕ → ℕ → ℕ → ℤ
 freshCoefficients number L a b = cond (eqb L 0) number (pos 0)
@@ -107,14 +115,15 @@ unfoldable pub newCoefficients : ℕ → ℕ → List ℕ → List ℤ → Box �
 newCoefficients W H t cs box n =
     sliceOf W H (carriedOver W H (levels t) (newLevels t box n) (coefficients W H cs))
 
--- 8: "level not 1 to 3 (insert)"
+-- The causes of what is read: the table, the box and the level. 8: "level not 1 to 3 (insert)"
+abbrev pub refinementCause : ℕ → ℕ → List ℕ → List ℤ → Box → ℕ → ℕ
+refinementCause W H t cs box n =
+    tableCause W H t cs orElse boxCause W H box orElse cause 8 (not (leb 1 n && leb n 3))
+
+-- Those of the outputs come after them.
 unfoldable pub insertCause : ℕ → ℕ → List ℕ → List ℤ → Box → ℕ → List ℕ → List ℤ → ℕ
 insertCause W H t cs box n treeOut numbersOut =
-    tableCause W H t cs
-    orElse boxCause W H box
-    orElse cause 8 (not (leb 1 n && leb n 3))
-    orElse lengthCause (slots W H) numbersOut
-    orElse treeOutCause (newTree t box n) treeOut
+    refinementCause W H t cs box n orElse outputsCause W H (newTree t box n) treeOut numbersOut
 
 -- The answer is the new tree's length.
 unfoldable pub insertOutcome : ℕ → ℕ → List ℕ → List ℤ → Box → ℕ → List ℕ → List ℤ → Written ℕ
@@ -149,10 +158,16 @@ pub record Done (A : Type 0) : Type 0 where
   pub result : Answer (Unit {0})
   pub after : List A
 
+abbrev pub done : {A : Type 0} → ℕ → List A → List A → Done A
+done c new lent = record { result = answer c tt; after = afterwards c lent new }
+
+-- An answer and the buffer are those of an outcome.
+abbrev pub SliceMeets : {A : Type 0} → Done A → Answer (Unit {0}) → List A → Type 0
+SliceMeets o result after = (result ≡ o .result) × (after ≡ o .after)
+
 unfoldable pub setOutcome : ℕ → ℕ → List ℕ → List ℤ → ℕ → ℤ → ℤ → ℤ → Done ℤ
 setOutcome W H t cs L i j number =
-    let c = setCause W H t cs L i j number in
-    record { result = answer c tt; after = afterwards c cs (set cs (place W H L (index i) (index j)) number) }
+    done (setCause W H t cs L i j number) (set cs (place W H L (index i) (index j)) number) cs
 
 -- ---- activity of a level: "one byte per place, 0 or 1"
 
@@ -165,8 +180,7 @@ activityCause W H t L out = regionCause W H t orElse cause 8 (ltb 3 L) orElse le
 
 unfoldable pub activityOutcome : ℕ → ℕ → List ℕ → ℕ → List ℕ → Done ℕ
 activityOutcome W H t L out =
-    let c = activityCause W H t L out in
-    record { result = answer c tt; after = afterwards c out (activityBytes W H t L) }
+    done (activityCause W H t L out) (activityBytes W H t L) out
 
 -- ---- least level: "comes with the number of tree nodes visited"
 

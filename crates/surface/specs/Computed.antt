@@ -4,7 +4,7 @@ use mathlib.Core.Path.{refl}
 use Rattle.finite.specs.Range.{sum, every, count, total, least, tableFrom, rowsFrom}
 use Rattle.surface.specs.Sheet.{eighths}
 use Rattle.surface.specs.Quadtree.{bytes, parse, wellFormed, levelAt, regionTree, visits}
-use Rattle.surface.specs.Support.{leastUnder}
+use Rattle.surface.specs.Support.{leastUnder, activeInRow, activeCount, activeBefore}
 use Rattle.surface.specs.Spline.{cellOf, piece}
 use Rattle.surface.specs.Truncation.{weight}
 use Rattle.surface.specs.Carry.{carried}
@@ -14,8 +14,8 @@ use Rattle.surface.specs.Table.{tableCause}
 use Rattle.surface.specs.Calls.{freshOutcome, newTree, newCoefficients, insertCause, insertOutcome, setCause}
 use Rattle.surface.specs.Calls.{setOutcome, activityBytes, activityCause, activityOutcome, leastOutcome}
 use Rattle.surface.specs.Calls.{readingCause, exactOutcome, displayOutcome, costOutcome, wholeWatts}
-use Rattle.surface.specs.TableFile.{field, activeInRow, activeCount, activeBefore, allWithin, levelFields}
-use Rattle.surface.specs.TableFile.{fileContents, fileOutcome}
+use Rattle.surface.specs.Fields.{field, allWithin}
+use Rattle.surface.specs.TableFile.{sidesField, treeField, levelField, levelFields, fileContents, fileOutcome}
 use Rattle.surface.specs.Bench.{Inserted, Visited, TwoByOne}
 use Rattle.surface.specs.Cases.{InsideCell, Children, Shortest, Longest, EastBox, LimitFirst, NewTree, Activity}
 use Rattle.surface.specs.Cases.{Sets, Fresh, LevelZero, SetsFine, Declined, LowestGiven, Rounded, Costs, Files}
@@ -122,15 +122,16 @@ pub costs : Costs
 costs = (refl, refl, refl)
 
 pub files : Files
-unfolding fileOutcome fileContents levelFields field activeCount activeInRow activeBefore allWithin total count every
-    leastUnder least eighths levels levelAt parse wellFormed start tableFrom rowsFrom
+unfolding fileOutcome fileContents sidesField treeField levelField levelFields field activeCount activeInRow
+    activeBefore allWithin total count every leastUnder least eighths levels levelAt parse wellFormed start tableFrom
+    rowsFrom
 files = (refl, refl, refl, refl, refl, refl)
 
 pub heads : Heads
-unfolding fileOutcome fileContents levelFields field parse wellFormed
+unfolding fileOutcome fileContents sidesField treeField levelField levelFields field parse wellFormed
 heads = (refl, refl, refl, refl, refl, refl, refl, refl)
 
 pub contents-first : ContentsFirst
-unfolding fileOutcome fileContents levelFields field activeCount activeInRow allWithin total count every leastUnder
-    least eighths levels levelAt parse wellFormed
+unfolding fileOutcome fileContents sidesField treeField levelField levelFields field activeCount activeInRow allWithin
+    total count every leastUnder least eighths levels levelAt parse wellFormed
 contents-first = (refl, refl)

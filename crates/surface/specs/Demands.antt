@@ -5,18 +5,19 @@ use mathlib.Core.Path.{_≡_}
 use mathlib.Core.Logic.{_↔_}
 use mathlib.Core.Bool.{Bool, true, false, _||_, cond}
 use mathlib.Core.List.{List, [], _∷_}
-use Prim.Native.Nat.{ℕ, suc, _+_, _*_, _/_, _^_, _≤_, _<_, max}
+use Prim.Native.Nat.{ℕ, suc, _+_, _*_, _/_, _^_, _≤_, _<_, min, max}
 use lib.IntN.{ℤ, pos, natAbs, _+ℤ_, _*ℤ_}
 use lib.Dec.{eqb}
 use lib.Signed.{_≤ℤ_}
 use lib.Ieee.{Float}
 use lib.ListN.{length, getD, take}
-use Rattle.finite.specs.Range.{sum}
-use Rattle.surface.specs.Sheet.{Box, functions, steps, quarters, onSheet}
+use Rattle.finite.specs.Range.{sum, sum2}
+use Rattle.surface.specs.Sheet.{Box, functions, steps, quarters, quarterOf, onSheet}
 use Rattle.surface.specs.Support.{lowEnd, highEnd, active, holdsAlong, holds, inRegion, inBox}
 use Rattle.surface.specs.Spline.{splineAt}
-use Rattle.surface.specs.Truncation.{D, weight, truncated}
-use Rattle.surface.specs.Patch.{patch, patchReading}
+use Rattle.surface.specs.Truncation.{D, weight, truncated, reading}
+use Rattle.surface.specs.Carry.{carried}
+use Rattle.surface.specs.Patch.{patch, evaluated, patchReading}
 use Rattle.surface.specs.Table.{treeOf, formed, levels, slots, coefficients, limit, Acceptable, tableReading}
 use Rattle.surface.specs.Calls.{Answer, refused, gives, Written, Done, freshOutcome, insertOutcome, setOutcome}
 use Rattle.surface.specs.Calls.{activityOutcome, leastOutcome, exactOutcome, displayOutcome, costOutcome}
@@ -134,14 +135,14 @@ left c (gives n) tree numbers = record { tree = take n tree; numbers = numbers }
 abbrev pub outcomeOf : ℕ → ℕ → Contents → Insertion → Written ℕ
 outcomeOf W H c i = insertOutcome W H (c .tree) (c .numbers) (i .box) (i .level) (i .treeOut) (i .numbersOut)
 
-abbrev pub step : ℕ → ℕ → Contents → Insertion → Contents
-step W H c i = let o = outcomeOf W H c i in left c (o .result) (o .tree) (o .numbers)
+abbrev pub inserted : ℕ → ℕ → Contents → Insertion → Contents
+inserted W H c i = let o = outcomeOf W H c i in left c (o .result) (o .tree) (o .numbers)
 
 abbrev pub InsertionRaises : Type 0
 InsertionRaises =
     (W H : ℕ) (c : Contents) (i : Insertion) (n : ℕ) → outcomeOf W H c i .result ≡ gives n
     → (q r : ℕ) → q < quarters W → r < quarters H
-    → levels (step W H c i .tree) q r
+    → levels (inserted W H c i .tree) q r
     ≡ cond (inBox (i .box) q r) (max (levels (c .tree) q r) (i .level)) (levels (c .tree) q r)
 
 -- ---- "So one set of regions has one tree, of 1 to 1,365 bytes."
@@ -221,20 +222,27 @@ BracketedReadings =
 -- ---- demand 3: "take any list of box insertions, refused ones included, that starts from an acceptable table, each
 -- insertion reading the table that the one before it left"
 
-unfoldable pub afterAll : ℕ → ℕ → Contents → List Insertion → Contents
+-- A step of the list, by its kind: insertions are the one kind. The table that it leaves.
+pub data Step : Type 0 where
+  insertion : Insertion → Step
+
+abbrev pub afterStep : ℕ → ℕ → Contents → Step → Contents
+afterStep W H c (insertion i) = inserted W H c i
+
+unfoldable pub afterAll : ℕ → ℕ → Contents → List Step → Contents
 afterAll W H c [] = c
-afterAll W H c (i ∷ is) = afterAll W H (step W H c i) is
+afterAll W H c (s ∷ ss) = afterAll W H (afterStep W H c s) ss
 
 -- "After the list the exact reading at every point of the sheet equals that before the list, and so still lies between
 -- those two coefficients of the starting table." The outcomes are equal at every point, on the sheet or off it.
 abbrev pub RefinementMovesNoReading : Type 0
 RefinementMovesNoReading =
-    (W H : ℕ) (c : Contents) (is : List Insertion) → Acceptable W H (c .tree) (c .numbers)
-    → Acceptable W H (afterAll W H c is .tree) (afterAll W H c is .numbers)
+    (W H : ℕ) (c : Contents) (ss : List Step) → Acceptable W H (c .tree) (c .numbers)
+    → Acceptable W H (afterAll W H c ss .tree) (afterAll W H c ss .numbers)
     × ((u v : ℕ)
-    → (exactOutcome W H (afterAll W H c is .tree) (afterAll W H c is .numbers) u v
+    → (exactOutcome W H (afterAll W H c ss .tree) (afterAll W H c ss .numbers) u v
     ≡ exactOutcome W H (c .tree) (c .numbers) u v)
-    × ((n : ℤ) → exactOutcome W H (afterAll W H c is .tree) (afterAll W H c is .numbers) u v ≡ gives n
+    × ((n : ℤ) → exactOutcome W H (afterAll W H c ss .tree) (afterAll W H c ss .numbers) u v ≡ gives n
     → Bracketed W H (c .tree) (c .numbers) u v n))
 
 -- The other calls that write a table leave an acceptable one.
@@ -261,6 +269,18 @@ PatchEvaluates =
     (W H : ℕ) (t : List ℕ) (cs : List ℤ) → Acceptable W H t cs → (u v : ℕ) → onSheet W H u v ≡ true
     → (tableReading W H t cs u v ≡ patchReading W H (levels t) (coefficients W H cs) u v)
     × ((L k l : ℕ) → L < 4 → k < 4 → l < 4 → natAbs (patch W H (levels t) (coefficients W H cs) u v L k l) ≤ limit L)
+
+-- A reading need not go on to level 3. From the level of "the quarter square holding its point" (document 02, Four) on
+-- each level L gives it, as its carried values times its splines and as its patch evaluated. (A level above 3 counts
+-- as 3; no table has one.)
+abbrev pub AnyLevel : Type 0
+AnyLevel =
+    (W H : ℕ) (lev : ℕ → ℕ → ℕ) (coef : ℕ → ℕ → ℕ → ℤ) (u v : ℕ) → 0 < W → 0 < H → u ≤ 128 * W → v ≤ 128 * H
+    → (L : ℕ) → L ≤ 3 → min (lev (quarterOf W u) (quarterOf H v)) 3 ≤ L
+    → (reading W H lev coef u v
+    ≡ sum2 (functions W L) (functions H L)
+    (λ a b. pos (splineAt W L a u * splineAt H L b v) *ℤ carried W H lev coef L a b))
+    × (reading W H lev coef u v ≡ evaluated W H lev coef u v L)
 
 -- ---- "Function (i) of level L is the sum of functions 2i to 2i+4 of level L+1 with weights 1, 4, 6, 4, 1 over 8"
 

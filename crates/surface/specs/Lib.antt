@@ -8,6 +8,7 @@ pub mod Patch
 pub mod Table
 pub mod Calls
 pub mod FloatReading
+pub mod Fields
 pub mod TableFile
 pub mod Demands
 pub mod Bench

@@ -32,9 +32,13 @@ patch W H lev coef u v (suc L) k l =
     (coef (suc L) (cellOf W (suc L) u + k) (cellOf H (suc L) v + l))
     (subdivided (cellOf W (suc L) u % 2) (cellOf H (suc L) v % 2) (patch W H lev coef u v L) k l)
 
--- The level 3 patch times the sixteen level 3 splines.
+-- The patch of level L times the sixteen splines of that level.
+abbrev pub evaluated : ℕ → ℕ → (ℕ → ℕ → ℕ) → (ℕ → ℕ → ℕ → ℤ) → ℕ → ℕ → ℕ → ℤ
+evaluated W H lev coef u v L =
+    let r = u - cellOf W L u * steps L in
+    let s = v - cellOf H L v * steps L in
+    sum2 4 4 λ k l. pos (piece k r (steps L) * piece l s (steps L)) *ℤ patch W H lev coef u v L k l
+
+-- That of level 3.
 unfoldable pub patchReading : ℕ → ℕ → (ℕ → ℕ → ℕ) → (ℕ → ℕ → ℕ → ℤ) → ℕ → ℕ → ℤ
-patchReading W H lev coef u v =
-    let r = u - cellOf W 3 u * steps 3 in
-    let s = v - cellOf H 3 v * steps 3 in
-    sum2 4 4 λ k l. pos (piece k r (steps 3) * piece l s (steps 3)) *ℤ patch W H lev coef u v 3 k l
+patchReading W H lev coef u v = evaluated W H lev coef u v 3

@@ -1,7 +1,7 @@
 -- Document 01, "The sheet and its grids": sides, cells, function indices and points.
 -- Both directions are alike, so a definition takes the side n (W or H) that it speaks of.
 use mathlib.Core.Bool.{Bool, _&&_}
-use Prim.Native.Nat.{ℕ, _+_, _-_, _*_, _^_}
+use Prim.Native.Nat.{ℕ, _+_, _-_, _*_, _/_, _^_, min}
 use lib.Dec.{leb}
 
 -- "The sheet is W by H cells of level 0, each side 1 to 8."
@@ -31,6 +31,11 @@ onSheet W H u v = leb u (128 * W) && leb v (128 * H)
 -- "A quarter is a quarter of a level 0 cell's side": the quarter squares along a side of n.
 abbrev pub quarters : ℕ → ℕ
 quarters n = 4 * n
+
+-- The quarter that holds a point, along a side of n; document 02, Four: "on a shared edge the one of greater u or v,
+-- at a far edge the last".
+abbrev pub quarterOf : ℕ → ℕ → ℕ
+quarterOf n u = min (u / 32) (quarters n - 1)
 
 -- "A box is two corners in whole quarters, low corner first, u before v."
 pub record Box : Type 0 where

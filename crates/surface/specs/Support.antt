@@ -1,11 +1,11 @@
 -- Document 01, "The sheet and its grids" and "Functions and coefficients": supports cut to the sheet, the quarter
--- squares under them, and which functions are active. The regions are given by lev, the level of quarter square (q,
--- r).
+-- squares under them, and which functions are active and how many. The regions are given by lev, the level of quarter
+-- square (q, r).
 use mathlib.Core.Bool.{Bool, _&&_, cond}
 use Prim.Native.Nat.{ℕ, _+_, _-_, _*_, min}
 use lib.Dec.{leb, ltb, eqb}
-use Rattle.finite.specs.Range.{least}
-use Rattle.surface.specs.Sheet.{Box, eighths, steps, quarters}
+use Rattle.finite.specs.Range.{least, count, total}
+use Rattle.surface.specs.Sheet.{Box, eighths, steps, quarters, functions}
 
 -- "support between L-cell edges i and i+4", "its support is cut to the sheet": the low and the high end in eighths,
 -- of the function with index a = i + 3 on a side of n. (`-` stops at 0, which is the cut at the near edge.)
@@ -39,6 +39,17 @@ leastUnder W H lev L a b = leastWhere W H lev (λ q r. shares W L a q && shares 
 -- "A function of level L is active exactly when the least level under its cut support is L."
 abbrev pub active : ℕ → ℕ → (ℕ → ℕ → ℕ) → ℕ → ℕ → ℕ → Bool
 active W H lev L a b = eqb (leastUnder W H lev L a b) L
+
+-- How many functions of level L are active: row by row, and those before place (a, b) in slice order.
+unfoldable pub activeInRow : ℕ → ℕ → (ℕ → ℕ → ℕ) → ℕ → ℕ → ℕ
+activeInRow W H lev L b = count (functions W L) (λ a. active W H lev L a b)
+
+unfoldable pub activeCount : ℕ → ℕ → (ℕ → ℕ → ℕ) → ℕ → ℕ
+activeCount W H lev L = total (functions H L) (λ b. activeInRow W H lev L b)
+
+unfoldable pub activeBefore : ℕ → ℕ → (ℕ → ℕ → ℕ) → ℕ → ℕ → ℕ → ℕ
+activeBefore W H lev L a b =
+    total b (λ r. activeInRow W H lev L r) + count a (λ c. active W H lev L c b)
 
 -- "the region of level L is all quarter squares with level at least L": the cut support lies in it.
 abbrev pub inRegion : ℕ → ℕ → (ℕ → ℕ → ℕ) → ℕ → ℕ → ℕ → Bool

@@ -1,78 +1,62 @@
 -- Document 01, "The table file": what loading a file gives, judged in byte order: "whole head, tag, length, whole
--- body, contents; after the last field 15, 16, 17".
-use mathlib.Core.Bool.{Bool, not, _&&_, cond}
-use mathlib.Core.List.{List, [], _++_}
-use Prim.Native.Nat.{ℕ, zero, suc, _+_, _-_, _*_, _^_}
-use lib.IntN.{ℤ, pos, negsuc, natAbs}
-use lib.Dec.{leb, ltb, eqb}
-use lib.ListN.{length, getD, take, drop}
-use Rattle.finite.specs.Range.{every, count, total, grid}
+-- body, contents; after the last field 15, 16, 17"; and the file of a table.
+use mathlib.Core.Bool.{Bool, _&&_, cond}
+use mathlib.Core.List.{List, [], _∷_, _++_}
+use Prim.Native.Nat.{ℕ, zero, suc, _+_, _*_}
+use lib.IntN.{ℤ, pos}
+use lib.Dec.{ltb}
+use lib.ListN.{length, getD}
+use Rattle.finite.specs.Range.{grid, joined}
 use Rattle.surface.specs.Sheet.{goodSide, functions}
-use Rattle.surface.specs.Support.{active}
-use Rattle.surface.specs.Table.{cause, _orElse_, treeOf, formed, levels, slots, limit}
-use Rattle.surface.specs.Calls.{Written, refused, written, lengthCause, treeOutCause}
+use Rattle.surface.specs.Support.{active, activeCount, activeBefore}
+use Rattle.surface.specs.Table.{cause, treeOf, formed, levels, coefficients, limit}
+use Rattle.surface.specs.Calls.{Written, refused, written, outputsCause}
+use Rattle.surface.specs.Fields.{Judged, declined, contains, unless, Part, holds, inPart, field, checked}
+use Rattle.surface.specs.Fields.{numberAt, allWithin, fieldBytes, numberBytes}
 
--- ---- fields
+-- ---- the sides and the tree
 
--- What stands where a field is due: a refusal number, or its body and the bytes after it.
-pub data Field : Type 0 where
-  faulty : ℕ → Field
-  body : List ℕ → List ℕ → Field
+pub record Sides : Type 0 where
+  pub W : ℕ
+  pub H : ℕ
 
-abbrev pub fieldOr : ℕ → List ℕ → List ℕ → Field
-fieldOr zero b rest = body b rest
-fieldOr (suc n) b rest = faulty (suc n)
+-- "tag 1, W and H, a byte each"
+abbrev pub sidesIn : List ℕ → Sides
+sidesIn b = record { W = getD b 0 0; H = getD b 1 0 }
 
--- "a two-byte length (high byte first)"
-abbrev pub lengthAt : List ℕ → ℕ
-lengthAt s = 256 * getD s 1 0 + getD s 2 0
+abbrev pub goodSides : Sides → Bool
+goodSides s = goodSide (s .W) && goodSide (s .H)
 
--- "Fields of a one-byte tag, a two-byte length ... and a body": the field of the due tag, whose length passes the
--- test. 12 is "file ends inside a head or body", 13 "other tag than the one due", 14 "field length wrong".
-unfoldable pub field : ℕ → (ℕ → Bool) → List ℕ → Field
-field tag fits s =
-    let n = lengthAt s in
-    fieldOr
-    (cause 12 (ltb (length s) 3)
-    orElse cause 13 (not (eqb (getD s 0 0) tag))
-    orElse cause 14 (not (fits n))
-    orElse cause 12 (ltb (length s) (3 + n)))
-    (take n (drop 3 s))
-    (drop (3 + n) s)
+unfoldable pub sidesField : List ℕ → Judged (Part Sides)
+sidesField s = checked (field 1 2 2 s) 1 (λ b. goodSides (sidesIn b)) sidesIn
 
--- ---- coefficients
+-- "tag 2, the tree"; "Tag 2's length is 1 to 1,365."
+unfoldable pub treeField : ℕ → ℕ → List ℕ → Judged (Part (List ℕ))
+treeField W H s = checked (field 2 1 1365 s) 2 (λ t. formed W H (treeOf t)) (λ t. t)
 
--- "five bytes each, two's complement, high byte first": the k-th number of a body.
-abbrev pub unsignedAt : List ℕ → ℕ → ℕ
-unsignedAt b k =
-    let at = 5 * k in
-    (((getD b at 0 * 256 + getD b (at + 1) 0) * 256 + getD b (at + 2) 0) * 256 + getD b (at + 3) 0) * 256
-    + getD b (at + 4) 0
-
-abbrev pub twosComplement : ℕ → ℤ
-twosComplement n = cond (ltb n (2 ^ 39)) (pos n) (negsuc (2 ^ 40 - 1 - n))
-
-abbrev pub numberAt : List ℕ → ℕ → ℤ
-numberAt b k = twosComplement (unsignedAt b k)
-
--- How many functions of level L are active: row by row, and those before place (a, b) in slice order.
-unfoldable pub activeInRow : ℕ → ℕ → (ℕ → ℕ → ℕ) → ℕ → ℕ → ℕ
-activeInRow W H lev L b = count (functions W L) (λ a. active W H lev L a b)
-
-unfoldable pub activeCount : ℕ → ℕ → (ℕ → ℕ → ℕ) → ℕ → ℕ
-activeCount W H lev L = total (functions H L) (λ b. activeInRow W H lev L b)
-
-unfoldable pub activeBefore : ℕ → ℕ → (ℕ → ℕ → ℕ) → ℕ → ℕ → ℕ → ℕ
-activeBefore W H lev L a b =
-    total b (λ r. activeInRow W H lev L r) + count a (λ c. active W H lev L c b)
+-- ---- the coefficients
 
 -- "the active coefficients ... in slice order": function (a, b) takes the next number of its level's body when active.
 abbrev pub loaded : ℕ → ℕ → (ℕ → ℕ → ℕ) → ℕ → List ℕ → ℕ → ℕ → ℤ
 loaded W H lev L b a c = cond (active W H lev L a c) (numberAt b (activeBefore W H lev L a c)) (pos 0)
 
--- The first n coefficients of a level's body are within the limit.
-unfoldable pub allWithin : ℕ → ℕ → List ℕ → Bool
-allWithin L n b = every n (λ k. leb (natAbs (numberAt b k)) (limit L))
+-- The part of the coefficient slice for level L.
+abbrev pub levelLoaded : ℕ → ℕ → (ℕ → ℕ → ℕ) → ℕ → List ℕ → List ℤ
+levelLoaded W H lev L b = grid (functions W L) (functions H L) (λ a c. loaded W H lev L b a c)
+
+-- "tags 16 to 19, the active coefficients of levels 0 to 3": one level. A coefficient past its limit is 4.
+unfoldable pub levelField : ℕ → ℕ → (ℕ → ℕ → ℕ) → ℕ → List ℕ → Judged (Part (List ℤ))
+levelField W H lev L s =
+    let n = activeCount W H lev L in
+    checked (field (16 + L) (5 * n) (5 * n) s) 4 (allWithin (limit L) n) (levelLoaded W H lev L)
+
+-- The levels below n, one after the other, with the slice of their coefficients.
+unfoldable pub levelFields : ℕ → ℕ → (ℕ → ℕ → ℕ) → ℕ → List ℕ → Judged (Part (List ℤ))
+levelFields W H lev zero s = holds [] s
+levelFields W H lev (suc L) s =
+    inPart (levelFields W H lev L s) λ before rest.
+    inPart (levelField W H lev L rest) λ numbers rest2.
+    holds (before ++ numbers) rest2
 
 -- ---- the whole file
 
@@ -83,41 +67,22 @@ pub record Loaded : Type 0 where
   pub tree : List ℕ
   pub numbers : List ℤ
 
-pub data File : Type 0 where
-  declined : ℕ → File
-  contains : Loaded → File
+abbrev pub File : Type 0
+File = Judged Loaded
 
-abbrev pub fileOr : ℕ → File → File
-fileOr zero f = f
-fileOr (suc n) f = declined (suc n)
+-- What follows the levels: "bytes after the last field" are 15.
+abbrev pub endCause : List ℕ → ℕ
+endCause s = cause 15 (ltb 0 (length s))
 
--- Goes on with a field's body and the bytes after it.
-abbrev pub inField : Field → (List ℕ → List ℕ → File) → File
-inField (faulty n) f = declined n
-inField (body b rest) f = f b rest
-
--- "tags 16 to 19, the active coefficients of levels 0 to 3": the fields of the levels from L on, n of them, with the
--- slice of the coarser levels before. A coefficient past its limit is 4; "bytes after the last field" are 15.
-unfoldable pub levelFields : ℕ → ℕ → List ℕ → ℕ → ℕ → List ℤ → List ℕ → File
-levelFields W H t zero L before s =
-    fileOr (cause 15 (ltb 0 (length s))) (contains (record { W = W; H = H; tree = t; numbers = before }))
-levelFields W H t (suc n) L before s =
-    let k = activeCount W H (levels t) L in
-    inField (field (16 + L) (λ m. eqb m (5 * k)) s) λ b rest.
-    fileOr (cause 4 (not (allWithin L k b)))
-    (levelFields W H t n (suc L)
-    (before ++ grid (functions W L) (functions H L) (λ a c. loaded W H (levels t) L b a c))
-    rest)
-
--- "tag 1, W and H, a byte each; tag 2, the tree"; "Tag 2's length is 1 to 1,365."
+-- "in this order, all present"
 unfoldable pub fileContents : List ℕ → File
 fileContents s =
-    inField (field 1 (λ n. eqb n 2) s) λ sides rest.
-    let W = getD sides 0 0 in
-    let H = getD sides 1 0 in
-    fileOr (cause 1 (not (goodSide W && goodSide H)))
-    (inField (field 2 (λ n. leb 1 n && leb n 1365) rest) λ t rest2.
-    fileOr (cause 2 (not (formed W H (treeOf t)))) (levelFields W H t 4 0 [] rest2))
+    inPart (sidesField s) λ sides rest.
+    let W = sides .W in
+    let H = sides .H in
+    inPart (treeField W H rest) λ t rest2.
+    inPart (levelFields W H (levels t) 4 rest2) λ numbers rest3.
+    unless (endCause rest3) (contains (record { W = W; H = H; tree = t; numbers = numbers }))
 
 -- ---- the call
 
@@ -131,7 +96,7 @@ abbrev pub fileOutcomeOf : File → List ℕ → List ℤ → Written FileResult
 fileOutcomeOf (declined n) treeOut numbersOut = record { result = refused n; tree = treeOut; numbers = numbersOut }
 fileOutcomeOf (contains f) treeOut numbersOut =
     written
-    (lengthCause (slots (f .W) (f .H)) numbersOut orElse treeOutCause (f .tree) treeOut)
+    (outputsCause (f .W) (f .H) (f .tree) treeOut numbersOut)
     (record { treeLength = length (f .tree); W = f .W; H = f .H })
     (f .tree)
     (f .numbers)
@@ -141,3 +106,24 @@ fileOutcomeOf (contains f) treeOut numbersOut =
 -- "Reading fills a tree buffer and a coefficient slice."
 unfoldable pub fileOutcome : List ℕ → List ℕ → List ℤ → Written FileResult
 fileOutcome file treeOut numbersOut = fileOutcomeOf (fileContents file) treeOut numbersOut
+
+-- ---- the file of a table
+
+-- What function (a, b) of level L adds to its level's body: its coefficient when active.
+abbrev pub placeBytes : ℕ → ℕ → List ℕ → List ℤ → ℕ → ℕ → ℕ → List ℕ
+placeBytes W H t cs L a b = cond (active W H (levels t) L a b) (numberBytes (coefficients W H cs L a b)) []
+
+-- "the active coefficients ... in slice order": "in a level j rises, within a row i rises". Row b, and the level.
+abbrev pub rowBytes : ℕ → ℕ → List ℕ → List ℤ → ℕ → ℕ → List ℕ
+rowBytes W H t cs L b = joined (functions W L) (λ a. placeBytes W H t cs L a b)
+
+unfoldable pub levelBody : ℕ → ℕ → List ℕ → List ℤ → ℕ → List ℕ
+levelBody W H t cs L = joined (functions H L) (λ b. rowBytes W H t cs L b)
+
+-- "in this order, all present: tag 1, W and H, a byte each; tag 2, the tree; tags 16 to 19, the active coefficients of
+-- levels 0 to 3"
+unfoldable pub fileOf : ℕ → ℕ → List ℕ → List ℤ → List ℕ
+fileOf W H t cs =
+    fieldBytes 1 (W ∷ H ∷ [])
+    ++ fieldBytes 2 t
+    ++ joined 4 (λ L. fieldBytes (16 + L) (levelBody W H t cs L))

@@ -1,26 +1,27 @@
 -- The cause at each way out of `region_cause`, `box_cause` and `table_cause`.
-use mathlib.Core.Path.{_≡_, sym, ap, ap₂, _∙_}
+use mathlib.Core.Path.{_≡_, sym, ap, _∙_}
 use mathlib.Core.Bool.{Bool, true, not, Bool·not-not, _&&_, and-false}
 use mathlib.Core.List.{List}
-use Prim.Native.Nat.{ℕ, _+_, _*_, _/_, _%_, _≤_, _<_}
+use Prim.Native.Nat.{ℕ, _≤_, _<_}
 use native.Mathlib.Omega.{arith}
 use borrow.Author.Tests.{ltb-true, leb-true, lt-ltb, le-ltb, le-leb, lt-leb}
 use lib.Dec.{leb, ltb, eqb}
 use lib.IntN.{ℤ}
 use lib.ListN.{length}
 use Rattle.finite.specs.Range.{every}
-use Rattle.finite.proofs.Tests.{every-cong, every2-cong}
+use Rattle.finite.proofs.Tests.{every-cong, every2-cong, both}
 use Rattle.surface.specs.Sheet.{Box, goodSide, functions, quarters}
 use Rattle.surface.specs.Support.{leastUnder}
 use Rattle.surface.specs.Table.{cause, _orElse_, treeOf, formed, levels, slots, coefficients}
 use Rattle.surface.specs.Table.{withinLimits, passiveZero, regionCause, tableCause}
 use Rattle.surface.specs.Calls.{boxCause}
-use Rattle.surface.proofs.Least.{both, leastUnder-cong}
-use Rattle.surface.proofs.TableLaws.{orElse-none, orElse-first, cause-none, good-side}
-use Rattle.quadtree.specs.Visit.{InSheet}
+use Rattle.surface.proofs.Least.{leastUnder-cong}
+use Rattle.surface.proofs.TableLaws.{good-side}
+use Rattle.surface.proofs.Causes.{orElse-none, first, cause-none}
+use Rattle.boxes.specs.Boxes.{InSheet}
 use Rattle.rows.specs.Rows.{levelsOf, levelRows}
 use Rattle.rows.proofs.RowLaws.{level-rows}
-use Rattle.table.specs.Faults.{Test, limits, zeros, holdsAt, holdsOn}
+use Rattle.faults.specs.Faults.{Test, limits, zeros, holdsAt, holdsOn}
 
 -- ---- causes 1 and 2
 
@@ -65,10 +66,7 @@ module _ (W H : ℕ) (t : List ℕ) (cs : List ℤ) where
 
   pub table-region : (r : ℕ) → r ≡ regionCause W H t → (r ≡ 0 → ⊥) → r ≡ tableCause W H t cs
   unfolding tableCause
-  table-region r e h =
-      let rest = table 0 (eqb (length cs) (slots W H)) (withinLimits W H (levels t) (coefficients W H cs))
-      (passiveZero W H (levels t) (coefficients W H cs)) in
-      orElse-first r rest h ∙ ap (λ r. r orElse rest) e
+  table-region r e h = first e h _
 
 -- ---- the rows in place of the tree
 

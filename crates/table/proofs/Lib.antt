@@ -1,3 +1,1 @@
-pub mod RowFaultLaws
-pub mod FaultLaws
 pub mod CauseLaws

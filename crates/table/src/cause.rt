@@ -3,7 +3,7 @@ ghost use mathlib.Core.Path.{_≡_};
 ghost use Prim.Native.Nat.{_≤_};
 ghost use Rattle.surface.specs.Table.{regionCause, tableCause};
 ghost use Rattle.surface.specs.Calls.{boxCause};
-ghost use Rattle.quadtree.specs.Visit.{boxOf};
+ghost use Rattle.boxes.specs.Boxes.{boxOf};
 ghost use Rattle.rows.specs.Rows.{levelRows};
 
 // Causes 1 and 2: the sides and the tree, with its regions where none applies.
@@ -23,20 +23,20 @@ pub fn region_cause(w: usize, h: usize, t: &[u8], rows: &mut [u32; 96]) -> u8
 }
 
 // Cause 7: a box with no area, or past the sheet.
-pub fn box_cause(w: usize, h: usize, a: quadtree::visit::Area) -> u8
+pub fn box_cause(w: usize, h: usize, b: boxes::Box) -> u8
     requires { ⌜ (w ≤ 8) × (h ≤ 8) ⌝ }
-    ensures { λ r. ⌜ r ≡ boxCause w h (boxOf a) ⌝ }
+    ensures { λ r. ⌜ r ≡ boxCause w h (boxOf b) ⌝ }
 {
-    if a.u1 <= a.u0 {
+    if b.u1 <= b.u0 {
         return 7;
     }
-    if a.v1 <= a.v0 {
+    if b.v1 <= b.v0 {
         return 7;
     }
-    if 4 * w < a.u1 {
+    if 4 * w < b.u1 {
         return 7;
     }
-    if 4 * h < a.v1 {
+    if 4 * h < b.v1 {
         return 7;
     }
     0
@@ -55,7 +55,7 @@ pub fn check(w: usize, h: usize, t: &[u8], cs: &[i64], rows: &mut [u32; 96]) -> 
     if cs.len() != slots {
         return 3;
     }
-    let f = super::faults::table_faults(cs, rows, w, h);
+    let f = faults::of_table(cs, rows, w, h);
     if f.over {
         return 4;
     }

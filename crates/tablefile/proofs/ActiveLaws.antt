@@ -10,9 +10,9 @@ use borrow.Author.Tests.{leb-true}
 use Rattle.finite.specs.Range.{count, total}
 use Rattle.finite.proofs.Tests.{every-true, count-le}
 use Rattle.surface.specs.Sheet.{functions}
-use Rattle.surface.specs.Support.{active}
-use Rattle.surface.specs.Table.{limit}
-use Rattle.surface.specs.TableFile.{numberAt, activeInRow, activeCount, activeBefore, loaded, allWithin}
+use Rattle.surface.specs.Support.{active, activeInRow, activeCount, activeBefore}
+use Rattle.surface.specs.Fields.{numberAt, allWithin}
+use Rattle.surface.specs.TableFile.{loaded}
 use Rattle.tablefile.proofs.CountLaws.{total-le, total-through, count-before, total-split, count-split}
 
 module _ (W H : ℕ) (lev : ℕ → ℕ → ℕ) (L : ℕ) where
@@ -58,13 +58,12 @@ module _ (W H : ℕ) (lev : ℕ → ℕ → ℕ) (L : ℕ) where
   loaded-passive body a b e =
       ap (λ t. cond t (numberAt body (activeBefore W H lev L a b)) (pos 0)) e
 
-  pub loaded-within : (body : List ℕ) → allWithin L (activeCount W H lev L) body ≡ true
+  pub loaded-within : (most : ℕ) (body : List ℕ) → allWithin most (activeCount W H lev L) body ≡ true
       → (a b : ℕ) → a < functions W L → b < functions H L → active W H lev L a b ≡ true
-      → natAbs (loaded W H lev L body a b) ≤ limit L
+      → natAbs (loaded W H lev L body a b) ≤ most
   unfolding allWithin
-  loaded-within body w a b ha hb e =
+  loaded-within most body w a b ha hb e =
       let k = activeBefore W H lev L a b in
       rw (loaded-active body a b e)
-      (leb-true (natAbs (numberAt body k)) (limit L)
-      (every-true (activeCount W H lev L) (λ k. leb (natAbs (numberAt body k)) (limit L)) w k
-      (active-before a b ha hb e)))
+      (leb-true (natAbs (numberAt body k)) most
+      (every-true (activeCount W H lev L) (λ k. leb (natAbs (numberAt body k)) most) w k (active-before a b ha hb e)))

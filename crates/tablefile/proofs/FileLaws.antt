@@ -1,23 +1,27 @@
 -- What the acceptance of a file says, fact by fact.
-use mathlib.Core.Path.{_≡_, refl, ap, _∙_, subst}
-use mathlib.Core.Bool.{true, not, _&&_}
-use mathlib.Core.List.{List, [], _∷_, _++_, append-nil, append-assoc}
+use mathlib.Core.Path.{_≡_, sym, ap, ap₂, _∙_, subst}
+use mathlib.Core.Bool.{true}
+use mathlib.Core.List.{List, [], _∷_, _++_}
 use Prim.Native.Nat.{ℕ, zero, suc, _+_, _*_, _≤_, _<_}
 use native.Mathlib.Nat.{zero-add}
 use native.Mathlib.Decide.{decLt}
 use native.Mathlib.Omega.{arith}
-use lib.IntN.{ℤ}
-use lib.Dec.{leb, ltb, eqb}
+use lib.IntN.{ℤ, natAbs}
+use lib.Dec.{ltb}
 use borrow.Author.Tests.{ltb-false}
 use lib.ListN.{length, getD}
 use Rattle.finite.specs.Range.{grid}
+use Rattle.finite.proofs.Tests.{both}
 use Rattle.surface.specs.Sheet.{goodSide, functions}
-use Rattle.surface.specs.Table.{cause, treeOf, formed, levels, coefficients, sliceFrom, sliceOf}
-use Rattle.surface.specs.TableFile.{activeCount, loaded, allWithin, Loaded, contains, levelFields, fileContents}
-use Rattle.surface.proofs.Least.{both}
-use Rattle.surface.proofs.TableLaws.{cause-none, slice-coefficient}
-use Rattle.surface.proofs.Refusals.{cause-off}
-use Rattle.tablefile.proofs.FieldLaws.{bodyOf, restOf, Stands, file-accepted, field-accepted}
+use Rattle.surface.specs.Support.{activeCount}
+use Rattle.surface.specs.Table.{treeOf, formed, levels, coefficients, sliceFrom, sliceOf, limit}
+use Rattle.surface.specs.Fields.{contains, holds, allWithin}
+use Rattle.surface.specs.TableFile.{sidesIn, goodSides, sidesField, treeField, loaded, levelLoaded, levelField}
+use Rattle.surface.specs.TableFile.{levelFields, Loaded, endCause, fileContents}
+use Rattle.surface.proofs.TableLaws.{formed-tree, slice-more, slice-length, slice-coefficient, Sound}
+use Rattle.surface.proofs.Causes.{cause-off}
+use Rattle.fields.proofs.FieldLaws.{bodyOf, restOf, Stands, held, unless-accepted, part-accepted, checked-accepted}
+use Rattle.tablefile.proofs.ActiveLaws.{loaded-passive, loaded-within}
 
 -- ---- the fields of the levels
 
@@ -27,61 +31,49 @@ after zero s = s
 after (suc n) s = restOf (after n s)
 
 -- The coefficients of the fields of the levels, the first at the front of s.
-abbrev pub coefficientsIn : ℕ → ℕ → List ℕ → List ℕ → ℕ → ℕ → ℕ → ℤ
-coefficientsIn W H t s L = loaded W H (levels t) L (bodyOf (after L s))
+abbrev pub coefficientsIn : ℕ → ℕ → (ℕ → ℕ → ℕ) → List ℕ → ℕ → ℕ → ℕ → ℤ
+coefficientsIn W H lev s L = loaded W H lev L (bodyOf (after L s))
 
 -- The field of level L stands in its turn, its numbers within their limit.
-pub record LevelStands (W H : ℕ) (t s : List ℕ) (L : ℕ) : Type 0 where
-  pub field : Stands (16 + L) (λ m. eqb m (5 * activeCount W H (levels t) L)) (after L s)
-  pub within : allWithin L (activeCount W H (levels t) L) (bodyOf (after L s)) ≡ true
+pub record LevelStands (W H : ℕ) (lev : ℕ → ℕ → ℕ) (s : List ℕ) (L : ℕ) : Type 0 where
+  pub field : Stands (16 + L) (5 * activeCount W H lev L) (5 * activeCount W H lev L) (after L s)
+  pub within : allWithin (limit L) (activeCount W H lev L) (bodyOf (after L s)) ≡ true
 
--- What acceptance of the n levels from L on says, with the slice of the coarser levels before.
-record LevelsStand (W H : ℕ) (t s : List ℕ) (n L : ℕ) (before : List ℤ) (f : Loaded) : Type 0 where
-  contents : record { W = W; H = H; tree = t; numbers = before ++ sliceFrom W H (coefficientsIn W H t s) L n } ≡ f
-  level : (M : ℕ) → L ≤ M → M < n + L → LevelStands W H t s M
-  end : after (n + L) s ≡ []
+-- What acceptance of the levels below n says.
+record LevelsStand (W H : ℕ) (lev : ℕ → ℕ → ℕ) (s : List ℕ) (n : ℕ) (cs : List ℤ) (rest : List ℕ) : Type 0 where
+  level : (L : ℕ) → L < n → LevelStands W H lev s L
+  slice : cs ≡ sliceFrom W H (coefficientsIn W H lev s) 0 n
+  end : rest ≡ after n s
 
-empty : (s : List ℕ) → length s ≤ 0 → s ≡ []
-empty [] h = refl
-empty (b ∷ s) h = absurd (omega arith)
-
-levels-accepted : (W H : ℕ) (t s : List ℕ) (n L : ℕ) (before : List ℤ) (f : Loaded)
-    → levelFields W H t n L before (after L s) ≡ contains f → LevelsStand W H t s n L before f
-unfolding levelFields sliceFrom after
-levels-accepted W H t s zero L before f e =
-    let rest = after L s in
-    let r = file-accepted (cause 15 (ltb 0 (length rest)))
-    (contains (record { W = W; H = H; tree = t; numbers = before })) f e in
+levels-accepted : (W H : ℕ) (lev : ℕ → ℕ → ℕ) (s : List ℕ) (n : ℕ) (cs : List ℤ) (rest : List ℕ)
+    → levelFields W H lev n s ≡ holds cs rest → LevelsStand W H lev s n cs rest
+unfolding levelFields levelField sliceFrom after
+levels-accepted W H lev s zero cs rest e =
+    let h = held [] cs s rest e in
+    record { level = λ L l. absurd (omega arith); slice = sym (h .0); end = sym (h .1) }
+levels-accepted W H lev s (suc n) cs rest e =
+    let k = activeCount W H lev n in
+    let f = coefficientsIn W H lev s in
+    let p = part-accepted (levelFields W H lev n s) _ _ e in
+    let q = part-accepted (levelField W H lev n (p .1)) _ _ (p .3) in
+    let ih = levels-accepted W H lev s n (p .0) (p .1) (p .2) in
+    let c = checked-accepted (16 + n) (5 * k) (5 * k) 3 (allWithin (limit n) k) (levelLoaded W H lev n) (after n s)
+    (q .0) (q .1) (subst (λ r. levelField W H lev n r ≡ holds (q .0) (q .1)) (ih .end) (q .2)) in
+    let h = held (p .0 ++ q .0) cs (q .1) rest (q .3) in
     record {
-      contents = rw (append-nil before) (same before f (r .1));
-      level = λ M l h. absurd (omega (arith, zero-add L));
-      end = rw (zero-add L)
-          (empty rest (ltb-false 0 (length rest) (cause-off 14 (ltb 0 (length rest)) (r .0))));
+      level = λ L l. upTo (ih .level) (record { field = c .0; within = c .1 }) L l (decLt L n);
+      slice =
+          sym (h .0)
+          ∙ ap₂ _++_ (ih .slice) (sym (c .2) ∙ ap (λ M. grid (functions W M) (functions H M) (f M)) (sym (zero-add n)))
+          ∙ sym (slice-more W H f n 0);
+      end = sym (h .1) ∙ sym (c .3);
     }
   where
-    same : (cs : List ℤ) (f : Loaded) → contains (record { W = W; H = H; tree = t; numbers = cs }) ≡ contains f
-        → record { W = W; H = H; tree = t; numbers = cs } ≡ f
-    same cs f e = cc
-levels-accepted W H t s (suc n) L before f e =
-    let k = activeCount W H (levels t) L in
-    let part = grid (functions W L) (functions H L) (coefficientsIn W H t s L) in
-    let r = field-accepted (16 + L) (λ m. eqb m (5 * k)) (after L s) _ f e in
-    let w = file-accepted (cause 4 (not (allWithin L k (bodyOf (after L s))))) _ f (r .1) in
-    let ih = levels-accepted W H t s n (suc L) (before ++ part) f (w .1) in
-    let same : suc n + L ≡ n + suc L = omega arith in
-    record {
-      contents = rw (← append-assoc before part (sliceFrom W H (coefficientsIn W H t s) (suc L) n)) (ih .contents);
-      level = λ M l h.
-          first (record { field = r .0; within = cause-none 3 (allWithin L k (bodyOf (after L s))) (w .0) })
-          (ih .level) M l h (decLt L M);
-      end = ap (λ k. after k s) same ∙ ih .end;
-    }
-  where
-    -- level L and those after it
-    first : LevelStands W H t s L → ((M : ℕ) → suc L ≤ M → M < n + suc L → LevelStands W H t s M)
-        → (M : ℕ) → L ≤ M → M < suc n + L → Dec (L < M) → LevelStands W H t s M
-    first here later M l h (yes d) = later M d (omega arith)
-    first here later M l h (no d) = let e : L ≡ M = omega arith in subst (λ K. LevelStands W H t s K) e here
+    -- the levels before n, and n
+    upTo : ((L : ℕ) → L < n → LevelStands W H lev s L) → LevelStands W H lev s n → (L : ℕ) → L < suc n → Dec (L < n)
+        → LevelStands W H lev s L
+    upTo before here L l (yes d) = before L d
+    upTo before here L l (no d) = let e : n ≡ L = omega arith in subst (LevelStands W H lev s) e here
 
 -- ---- the whole file
 
@@ -91,49 +83,81 @@ levelsIn s = restOf (restOf s)
 
 -- Each field in its turn, and what was loaded from it.
 pub record Accepted (s : List ℕ) (f : Loaded) : Type 0 where
-  pub sides : Stands 1 (λ n. eqb n 2) s
+  pub sides : Stands 1 2 2 s
   pub sideW : getD (bodyOf s) 0 0 ≡ f .W
   pub sideH : getD (bodyOf s) 1 0 ≡ f .H
   pub goodW : goodSide (f .W) ≡ true
   pub goodH : goodSide (f .H) ≡ true
-  pub tree : Stands 2 (λ n. leb 1 n && leb n 1365) (restOf s)
+  pub tree : Stands 2 1 1365 (restOf s)
   pub treeBytes : bodyOf (restOf s) ≡ f .tree
   pub form : formed (f .W) (f .H) (treeOf (f .tree)) ≡ true
-  pub level : (L : ℕ) → L < 4 → LevelStands (f .W) (f .H) (f .tree) (levelsIn s) L
+  pub level : (L : ℕ) → L < 4 → LevelStands (f .W) (f .H) (levels (f .tree)) (levelsIn s) L
   pub end : after 4 (levelsIn s) ≡ []
-  pub slice : f .numbers ≡ sliceOf (f .W) (f .H) (coefficientsIn (f .W) (f .H) (f .tree) (levelsIn s))
+  pub slice : f .numbers ≡ sliceOf (f .W) (f .H) (coefficientsIn (f .W) (f .H) (levels (f .tree)) (levelsIn s))
+
+empty : (s : List ℕ) → endCause s ≡ 0 → s ≡ []
+empty s e = go s (ltb-false 0 (length s) (cause-off 14 (ltb 0 (length s)) e))
+  where
+    go : (s : List ℕ) → length s ≤ 0 → s ≡ []
+    go [] h = cc
+    go (b ∷ s) h = absurd (omega arith)
 
 pub accepted : (s : List ℕ) (f : Loaded) → fileContents s ≡ contains f → Accepted s f
-unfolding fileContents after
+unfolding fileContents sidesField treeField
 accepted s f e =
-    let W = getD (bodyOf s) 0 0 in
-    let H = getD (bodyOf s) 1 0 in
-    let t = bodyOf (restOf s) in
-    let r1 = field-accepted 1 (λ n. eqb n 2) s _ f e in
-    let c1 = file-accepted (cause 1 (not (goodSide W && goodSide H))) _ f (r1 .1) in
-    let good = both (goodSide W) (goodSide H) (cause-none 0 (goodSide W && goodSide H) (c1 .0)) in
-    let r2 = field-accepted 2 (λ n. leb 1 n && leb n 1365) (restOf s) _ f (c1 .1) in
-    let c2 = file-accepted (cause 2 (not (formed W H (treeOf t)))) _ f (r2 .1) in
-    let r = levels-accepted W H t (levelsIn s) 4 0 [] f (c2 .1) in
-    subst (λ g. Accepted s g) (r .contents)
+    let p1 = part-accepted (sidesField s) _ f e in
+    let W = p1 .0 .W in
+    let H = p1 .0 .H in
+    let c1 = checked-accepted 1 2 2 0 (λ b. goodSides (sidesIn b)) sidesIn s (p1 .0) (p1 .1) (p1 .2) in
+    let good = both (goodSide W) (goodSide H) (sym (ap goodSides (c1 .2)) ∙ c1 .1) in
+    let p2 = part-accepted (treeField W H (p1 .1)) _ f (p1 .3) in
+    let t = p2 .0 in
+    let c2 = checked-accepted 2 1 1365 1 (λ t. formed W H (treeOf t)) (λ t. t) (restOf s) t (p2 .1)
+    (subst (λ r. treeField W H r ≡ holds t (p2 .1)) (sym (c1 .3)) (p2 .2)) in
+    let p3 = part-accepted (levelFields W H (levels t) 4 (p2 .1)) _ f (p2 .3) in
+    let l = levels-accepted W H (levels t) (levelsIn s) 4 (p3 .0) (p3 .1)
+    (subst (λ r. levelFields W H (levels t) 4 r ≡ holds (p3 .0) (p3 .1)) (sym (c2 .3)) (p3 .2)) in
+    let u = unless-accepted (endCause (p3 .1)) _ f (p3 .3) in
+    let same : _≡_ {A = Loaded} (record { W = W; H = H; tree = t; numbers = p3 .0 }) f = let e = u .1 in cc in
+    subst (Accepted s) same
     (record {
-      sides = r1 .0;
-      sideW = refl;
-      sideH = refl;
+      sides = c1 .0;
+      sideW = ap (λ x. x .W) (c1 .2);
+      sideH = ap (λ x. x .H) (c1 .2);
       goodW = good .0;
       goodH = good .1;
-      tree = r2 .0;
-      treeBytes = refl;
-      form = cause-none 1 (formed W H (treeOf t)) (c2 .0);
-      level = λ L h. r .level L (omega arith) h;
-      end = r .end;
-      slice = refl;
+      tree = c2 .0;
+      treeBytes = c2 .2;
+      form = sym (ap (λ t. formed W H (treeOf t)) (c2 .2)) ∙ c2 .1;
+      level = l .level;
+      end = sym (l .end) ∙ empty (p3 .1) (u .0);
+      slice = l .slice;
     })
 
 -- a coefficient of what was loaded is the one in its level's field
 pub loaded-coefficient : (s : List ℕ) (f : Loaded) → Accepted s f → (L a b : ℕ) → L < 4 → a < functions (f .W) L
     → b < functions (f .H) L
-    → coefficients (f .W) (f .H) (f .numbers) L a b ≡ coefficientsIn (f .W) (f .H) (f .tree) (levelsIn s) L a b
+    → coefficients (f .W) (f .H) (f .numbers) L a b
+    ≡ coefficientsIn (f .W) (f .H) (levels (f .tree)) (levelsIn s) L a b
 loaded-coefficient s f r L a b hL ha hb =
     ap (λ cs. coefficients (f .W) (f .H) cs L a b) (r .slice)
-    ∙ slice-coefficient (f .W) (f .H) (coefficientsIn (f .W) (f .H) (f .tree) (levelsIn s)) L a b hL ha hb
+    ∙ slice-coefficient (f .W) (f .H) (coefficientsIn (f .W) (f .H) (levels (f .tree)) (levelsIn s)) L a b hL ha hb
+
+-- what was loaded is a sound table
+pub accepted-sound : (s : List ℕ) (f : Loaded) → Accepted s f → Sound (f .W) (f .H) (f .tree) (f .numbers)
+accepted-sound s f r =
+    record {
+      side-W = r .goodW;
+      side-H = r .goodH;
+      tree = formed-tree (f .W) (f .H) (f .tree) (r .form);
+      size =
+          ap length (r .slice)
+          ∙ slice-length (f .W) (f .H) (coefficientsIn (f .W) (f .H) (levels (f .tree)) (levelsIn s));
+      limits = λ L a b hL ha hb e.
+          subst (λ z. natAbs z ≤ limit L) (sym (loaded-coefficient s f r L a b hL ha hb))
+          (loaded-within (f .W) (f .H) (levels (f .tree)) L (limit L) (bodyOf (after L (levelsIn s)))
+          (r .level L hL .within) a b ha hb e);
+      passive = λ L a b hL ha hb e.
+          loaded-coefficient s f r L a b hL ha hb
+          ∙ loaded-passive (f .W) (f .H) (levels (f .tree)) L (bodyOf (after L (levelsIn s))) a b e;
+    }

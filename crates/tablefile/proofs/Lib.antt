@@ -1,10 +1,7 @@
 pub mod CountLaws
-pub mod FieldLaws
-pub mod NumberLaws
 pub mod ActiveLaws
 pub mod FileLaws
 pub mod LongLaws
-pub mod Theorems
-pub mod SavedLaws
 pub mod SavedLevels
 pub mod Saved
+pub mod Theorems

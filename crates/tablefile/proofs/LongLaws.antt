@@ -1,24 +1,26 @@
 -- Input cut to its first n bytes is judged as the whole, where n is above what the fields can take.
-use mathlib.Core.Path.{_≡_, refl, sym, ap, ap₂, _∙_}
-use mathlib.Core.Bool.{Bool, true, false, not, _&&_}
-use mathlib.Core.List.{List, [], _∷_, _++_}
+use mathlib.Core.Path.{_≡_, refl, sym, ap, ap₂, _∙_, subst}
+use mathlib.Core.Bool.{Bool, not, _&&_, and-false}
+use mathlib.Core.List.{List, [], _∷_}
 use Prim.Native.Nat.{ℕ, zero, suc, _+_, _-_, _*_, _≤_, _<_}
-use native.Mathlib.Nat.{mul-le-mul, zero-add, suc-add}
+use native.Mathlib.Nat.{le-refl, mul-le-mul, zero-add, suc-add}
 use native.Mathlib.Decide.{decLt}
 use native.Mathlib.Omega.{arith}
-use lib.IntN.{ℤ}
 use lib.Dec.{leb, ltb, eqb}
-use borrow.Author.Tests.{leb-true, eqb-true, lt-ltb, le-ltb}
+use borrow.Author.Tests.{leb-true, lt-ltb, le-ltb, lt-leb}
 use lib.ListN.{length, getD, take, drop, length-take}
 use lib.Seq.{take-nil, getD-take, take-take}
-use Rattle.finite.specs.Range.{grid}
+use Rattle.finite.proofs.Tests.{both}
 use Rattle.surface.specs.Sheet.{goodSide, functions}
-use Rattle.surface.specs.Table.{cause, _orElse_, treeOf, formed, levels}
-use Rattle.surface.specs.TableFile.{lengthAt, fieldOr, field, activeCount, loaded, allWithin}
-use Rattle.surface.specs.TableFile.{File, contains, fileOr, inField, levelFields, fileContents}
-use Rattle.surface.proofs.Least.{both}
-use Rattle.surface.proofs.TableLaws.{orElse-none, cause-none, good-side}
-use Rattle.tablefile.proofs.FieldLaws.{bodyOf, restOf}
+use Rattle.surface.specs.Support.{activeCount}
+use Rattle.surface.specs.Table.{cause, _orElse_, treeOf, formed, levels, limit}
+use Rattle.surface.specs.Fields.{Judged, declined, contains, unless, Part, holds, inPart, lengthAt, field, checked}
+use Rattle.surface.specs.Fields.{allWithin}
+use Rattle.surface.specs.TableFile.{sidesIn, goodSides, sidesField, treeField, levelLoaded, levelField, levelFields}
+use Rattle.surface.specs.TableFile.{fileContents}
+use Rattle.surface.proofs.TableLaws.{good-side}
+use Rattle.surface.proofs.Causes.{orElse-none, cause-none}
+use Rattle.fields.proofs.FieldLaws.{bodyOf, restOf, checked-accepted}
 use Rattle.tablefile.proofs.ActiveLaws.{active-count-le}
 
 -- ---- a list and its first n elements
@@ -45,111 +47,138 @@ cut-drop zero r s = rw (zero-add r)
 cut-drop (suc m) r [] = rw (suc-add m r) (sym (take-nil r))
 cut-drop (suc m) r (b ∷ s) = rw (suc-add m r) (cut-drop m r s)
 
+-- ---- a part and the same with its rest cut
+
+module _ {A : Type 0} where
+  abbrev cut : ℕ → Judged (Part A) → Judged (Part A)
+  cut j (declined n) = declined n
+  cut j (contains p) = holds (p .content) (take j (p .rest))
+
+  -- the same, but for the rest, of which at least k bytes are kept
+  abbrev Front : ℕ → Judged (Part A) → Judged (Part A) → Type 0
+  Front k p q = (j : ℕ) × (k ≤ j) × (p ≡ cut j q)
+
+-- what goes on alike from both comes out alike, where the same refusal counts as alike
+along : {A B : Type 0} (alike : Judged B → Judged B → Type 0) → ((n : ℕ) → alike (declined n) (declined n))
+    → (k : ℕ) (p q : Judged (Part A)) → Front k p q → (f : A → List ℕ → Judged B)
+    → ((a : A) (rest : List ℕ) (j : ℕ) → q ≡ holds a rest → k ≤ j → alike (f a (take j rest)) (f a rest))
+    → alike (inPart p f) (inPart q f)
+along {A} alike same k p q front f h = subst (λ p. alike (inPart p f) (inPart q f)) (sym (front .2)) (go q h)
+  where
+    go : (q : Judged (Part A))
+        → ((a : A) (rest : List ℕ) (j : ℕ) → q ≡ holds a rest → k ≤ j → alike (f a (take j rest)) (f a rest))
+        → alike (inPart (cut (front .0) q) f) (inPart q f)
+    go (declined n) h = same n
+    go (contains p) h = h (p .content) (p .rest) (front .0) refl (front .1)
+
 -- ---- one field
 
--- a file refused alike, or going on alike
-same-file : (c : ℕ) (f g : File) → (c ≡ 0 → f ≡ g) → fileOr c f ≡ fileOr c g
-same-file zero f g h = h refl
-same-file (suc c) f g h = refl
-
 -- The causes of a field: shorter than a head, the byte at the tag, the length, shorter than the field.
-abbrev causes : ℕ → (ℕ → Bool) → Bool → ℕ → ℕ → Bool → ℕ
-causes tag fits headless t m cut =
-    cause 12 headless orElse cause 13 (not (eqb t tag)) orElse cause 14 (not (fits m)) orElse cause 12 cut
+abbrev causes : ℕ → ℕ → ℕ → Bool → ℕ → ℕ → Bool → ℕ
+causes tag low high headless t m short =
+    cause 12 headless
+    orElse cause 13 (not (eqb t tag))
+    orElse cause 14 (not (leb low m && leb m high))
+    orElse cause 12 short
 
--- 14 is judged before the body's end, so the last test counts only where the length fits
-same-causes : (tag : ℕ) (fits : ℕ → Bool) (a b : Bool) (t u m l : ℕ) (c d : Bool) → a ≡ b → t ≡ u → m ≡ l
-    → (fits l ≡ true → c ≡ d) → causes tag fits a t m c ≡ causes tag fits b u l d
-same-causes tag fits a b t u m l c d ea et em h =
-    ap (λ x. causes tag fits x t m c) ea
-    ∙ ap₂ (λ x y. causes tag fits b x y c) et em
-    ∙ ap (λ x. cause 12 b orElse cause 13 (not (eqb u tag)) orElse x) (go (fits l) h)
-  where
-    go : (f : Bool) → (f ≡ true → c ≡ d)
-        → cause 14 (not f) orElse cause 12 c ≡ cause 14 (not f) orElse cause 12 d
-    go true h = ap (λ x. cause 12 x) (h refl)
-    go false h = refl
+module _ (tag low high n k : ℕ) (s : List ℕ) (head : 3 ≤ n) (room : lengthAt s ≤ high → 3 + lengthAt s + k ≤ n) where
+  abbrev m : ℕ
+  m = lengthAt s
 
-causes-fit : (tag : ℕ) (fits : ℕ → Bool) (a : Bool) (t m : ℕ) (c : Bool) → causes tag fits a t m c ≡ 0
-    → fits m ≡ true
-causes-fit tag fits a t m c e =
-    let c2 = cause 13 (not (eqb t tag)) in
-    let c3 = cause 14 (not (fits m)) in
-    let c4 = cause 12 c in
-    cause-none 13 (fits m)
-    (orElse-none c3 c4 (orElse-none c2 (c3 orElse c4) (orElse-none (cause 12 a) (c2 orElse c3 orElse c4) e .1) .1) .0)
-
-module _ (tag : ℕ) (fits : ℕ → Bool) (n : ℕ) (s : List ℕ) (head : 3 ≤ n)
-    (room : fits (lengthAt s) ≡ true → 3 + lengthAt s ≤ n) where
-  cut-length : lengthAt (take n s) ≡ lengthAt s
+  cut-length : lengthAt (take n s) ≡ m
   cut-length =
       ap₂ (λ a b. 256 * a + b) (getD-take n s 1 0 (omega arith)) (getD-take n s 2 0 (omega arith))
 
-  cut-causes : causes tag fits (ltb (length (take n s)) 3) (getD (take n s) 0 0) (lengthAt (take n s))
+  -- 14 is judged before the body's end, so the last test counts only where the length fits
+  fits : (t : ℕ) (h c : Bool) → causes tag low high h t m c ≡ 0 → m ≤ high
+  fits t h c e =
+      let c2 = cause 13 (not (eqb t tag)) in
+      let fit = leb low m && leb m high in
+      let c3 = cause 14 (not fit) in
+      let c4 = cause 12 c in
+      let e3 = orElse-none c3 c4
+      (orElse-none c2 (c3 orElse c4) (orElse-none (cause 12 h) (c2 orElse c3 orElse c4) e .1) .1) .0 in
+      leb-true m high (both (leb low m) (leb m high) (cause-none 13 fit e3) .1)
+
+  same-causes : causes tag low high (ltb (length (take n s)) 3) (getD (take n s) 0 0) (lengthAt (take n s))
       (ltb (length (take n s)) (3 + lengthAt (take n s)))
-      ≡ causes tag fits (ltb (length s) 3) (getD s 0 0) (lengthAt s) (ltb (length s) (3 + lengthAt s))
-  cut-causes =
-      same-causes tag fits _ _ (getD (take n s) 0 0) (getD s 0 0) (lengthAt (take n s)) (lengthAt s) _ _
-      (cut-below n 3 s head) (getD-take n s 0 0 (omega arith)) cut-length
-      λ f. ap (λ m. ltb (length (take n s)) (3 + m)) cut-length ∙ cut-below n (3 + lengthAt s) s (room f)
+      ≡ causes tag low high (ltb (length s) 3) (getD s 0 0) m (ltb (length s) (3 + m))
+  same-causes =
+      rw (cut-length, cut-below n 3 s head, getD-take n s 0 0 (omega arith))
+      (ap (λ x. cause 12 (ltb (length s) 3) orElse cause 13 (not (eqb (getD s 0 0) tag)) orElse x) (go (decLt high m)))
+    where
+      go : Dec (high < m)
+          → cause 14 (not (leb low m && leb m high)) orElse cause 12 (ltb (length (take n s)) (3 + m))
+          ≡ cause 14 (not (leb low m && leb m high)) orElse cause 12 (ltb (length s) (3 + m))
+      go (yes l) = rw (lt-leb m high l, and-false (leb low m))
+      go (no l) = let r : 3 + m + k ≤ n = room (omega arith) in rw (cut-below n (3 + m) s (omega arith))
 
   -- the same refusal, or the same body with the rest of the first n bytes
-  cut-field : (k : List ℕ → List ℕ → File)
-      → ((r : ℕ) → n ≡ 3 + lengthAt s + r → fits (lengthAt s) ≡ true
-      → k (bodyOf s) (take r (restOf s)) ≡ k (bodyOf s) (restOf s))
-      → inField (field tag fits (take n s)) k ≡ inField (field tag fits s) k
+  front-field : Front k (field tag low high (take n s)) (field tag low high s)
   unfolding field
-  cut-field k h =
-      ap₂ (λ c m. inField (fieldOr c (take m (drop 3 (take n s))) (drop (3 + m) (take n s))) k) cut-causes cut-length
-      ∙ go (causes tag fits (ltb (length s) 3) (getD s 0 0) m (ltb (length s) (3 + m)))
-      (causes-fit tag fits (ltb (length s) 3) (getD s 0 0) m (ltb (length s) (3 + m)))
+  front-field = (
+    left,
+    omega arith,
+    ap₂ (λ c l. unless c (holds (take l (drop 3 (take n s))) (drop (3 + l) (take n s)))) same-causes cut-length
+        ∙ go (causes tag low high (ltb (length s) 3) (getD s 0 0) m (ltb (length s) (3 + m)))
+        (fits (getD s 0 0) (ltb (length s) 3) (ltb (length s) (3 + m))),
+  )
     where
-      m : ℕ
-      m = lengthAt s
+      left : ℕ
+      left = k + (n - (3 + m + k))
 
-      go : (c : ℕ) → (c ≡ 0 → fits m ≡ true)
-          → inField (fieldOr c (take m (drop 3 (take n s))) (drop (3 + m) (take n s))) k
-          ≡ inField (fieldOr c (bodyOf s) (restOf s)) k
+      go : (c : ℕ) → (c ≡ 0 → m ≤ high)
+          → unless c (holds (take m (drop 3 (take n s))) (drop (3 + m) (take n s)))
+          ≡ cut left (unless c (holds (bodyOf s) (restOf s)))
       go zero f =
-          let fit = f refl in
-          let r = n - (3 + m) in
-          let e : n ≡ 3 + m + r = omega (arith, room fit) in
-          let e3 : n ≡ 3 + (m + r) = omega arith in
-          ap₂ k
+          let r : 3 + m + k ≤ n = room (f refl) in
+          let e : n ≡ 3 + m + left = omega arith in
+          let e3 : n ≡ 3 + (m + left) = omega arith in
+          ap₂ holds
           (ap (λ j. take m (drop 3 (take j s))) e3
-          ∙ ap (take m) (cut-drop 3 (m + r) s)
-          ∙ take-take m (m + r) (drop 3 s) (omega arith))
-          (ap (λ j. drop (3 + m) (take j s)) e ∙ cut-drop (3 + m) r s)
-          ∙ h r e fit
+          ∙ ap (take m) (cut-drop 3 (m + left) s)
+          ∙ take-take m (m + left) (drop 3 s) (omega arith))
+          (ap (λ j. drop (3 + m) (take j s)) e ∙ cut-drop (3 + m) left s)
       go (suc c) f = refl
+
+  -- so with its contents
+  front-checked : {A : Type 0} (c : ℕ) (ok : List ℕ → Bool) (of : List ℕ → A)
+      → Front k (checked (field tag low high (take n s)) c ok of) (checked (field tag low high s) c ok of)
+  front-checked c ok of =
+      along (Front k) (λ n. (k, le-refl k, refl)) k (field tag low high (take n s)) (field tag low high s)
+      front-field _
+      λ b rest j e l. go b rest j l (cause c (not (ok b)))
+    where
+      go : (b rest : List ℕ) (j : ℕ) → k ≤ j → (c : ℕ)
+          → Front k (unless c (holds (of b) (take j rest))) (unless c (holds (of b) rest))
+      go b rest j l zero = (j, l, refl)
+      go b rest j l (suc c) = (k, le-refl k, refl)
 
 -- ---- the fields of the levels
 
-module _ (W H : ℕ) (t : List ℕ) where
-  -- The bytes of the fields of n levels from L on.
-  unfoldable levelBytes : ℕ → ℕ → ℕ
-  levelBytes zero L = 0
-  levelBytes (suc n) L = 3 + 5 * activeCount W H (levels t) L + levelBytes n (suc L)
+module _ (W H : ℕ) (lev : ℕ → ℕ → ℕ) where
+  -- The bytes of the fields of the levels below n.
+  unfoldable levelBytes : ℕ → ℕ
+  levelBytes zero = 0
+  levelBytes (suc L) = levelBytes L + (3 + 5 * activeCount W H lev L)
 
-  -- one byte more than the fields can take shows whether bytes follow them
-  cut-levels : (n L : ℕ) (before : List ℤ) (m : ℕ) (s : List ℕ) → levelBytes n L < m
-      → levelFields W H t n L before (take m s) ≡ levelFields W H t n L before s
-  unfolding levelFields levelBytes
-  cut-levels zero L before m s h =
-      ap (λ x. fileOr (cause 15 x) (contains (record { W = W; H = H; tree = t; numbers = before })))
-      (cut-any m s (omega arith))
-  cut-levels (suc n) L before m s h =
-      let k = activeCount W H (levels t) L in
-      cut-field (16 + L) (λ l. eqb l (5 * k)) m s (omega arith)
-      (λ f. omega (arith, eqb-true (lengthAt s) (5 * k) f)) _
-      λ r e f.
-      same-file (cause 4 (not (allWithin L k (bodyOf s)))) _ _
-      λ z. cut-levels n (suc L)
-      (before ++ grid (functions W L) (functions H L) (λ a c. loaded W H (levels t) L (bodyOf s) a c))
-      r (restOf s) (omega (arith, eqb-true (lengthAt s) (5 * k) f))
+  front-levels : (n k m : ℕ) (s : List ℕ) → levelBytes n + k ≤ m
+      → Front k (levelFields W H lev n (take m s)) (levelFields W H lev n s)
+  unfolding levelFields levelField levelBytes
+  front-levels zero k m s h = (m, omega arith, refl)
+  front-levels (suc L) k m s h =
+      let c = activeCount W H lev L in
+      let more = 3 + 5 * c + k in
+      along (Front k) (λ n. (k, le-refl k, refl)) more (levelFields W H lev L (take m s)) (levelFields W H lev L s)
+      (front-levels L more m s (omega arith)) _
+      λ before rest j e l.
+      along (Front k) (λ n. (k, le-refl k, refl)) k (levelField W H lev L (take j rest)) (levelField W H lev L rest)
+      (front-checked (16 + L) (5 * c) (5 * c) j k rest (omega arith) (λ fit. omega arith) 4 (allWithin (limit L) c)
+      (levelLoaded W H lev L)) _
+      λ numbers rest2 i e2 l2. (i, l2, refl)
 
   -- five bytes for each of 121, 361, 1,225 and 4,489 places, and the four heads
-  levels-small : W ≤ 8 → H ≤ 8 → levelBytes 4 0 ≤ 30992
+  levels-small : W ≤ 8 → H ≤ 8 → levelBytes 4 ≤ 30992
   unfolding levelBytes
   levels-small hW hH =
       omega (
@@ -160,31 +189,27 @@ module _ (W H : ℕ) (t : List ℕ) where
         level 3 67 (omega arith) (omega arith),
       )
     where
-      level : (L c : ℕ) → functions W L ≤ c → functions H L ≤ c → activeCount W H (levels t) L ≤ c * c
-      level L c w h = omega (arith, active-count-le W H (levels t) L, mul-le-mul h w)
+      level : (L c : ℕ) → functions W L ≤ c → functions H L ≤ c → activeCount W H lev L ≤ c * c
+      level L c w h = omega (arith, active-count-le W H lev L, mul-le-mul h w)
 
 -- ---- the whole file
 
 -- the fields of a file take at most 5, 1,368 and 30,992 bytes, and one more shows whether bytes follow them
 pub cut-contents : (s : List ℕ) (n : ℕ) → 32366 ≤ n → fileContents (take n s) ≡ fileContents s
-unfolding fileContents
+unfolding fileContents sidesField treeField
 cut-contents s n h =
-    let W = getD (bodyOf s) 0 0 in
-    let H = getD (bodyOf s) 1 0 in
-    cut-field 1 (λ m. eqb m 2) n s (omega arith) (λ f. omega (arith, eqb-true (lengthAt s) 2 f)) _
-    λ r e f.
-    same-file (cause 1 (not (goodSide W && goodSide H))) _ _
-    λ z.
-    let good = both (goodSide W) (goodSide H) (cause-none 0 (goodSide W && goodSide H) z) in
-    let small = levels-small W H (bodyOf (restOf s)) (good-side W (good .0) .1) (good-side H (good .1) .1) in
-    let rest : 32361 ≤ r = omega (arith, eqb-true (lengthAt s) 2 f) in
-    cut-field 2 (λ m. leb 1 m && leb m 1365) r (restOf s) (omega arith)
-    (λ f2. omega (arith, short f2)) _
-    λ r2 e2 f2.
-    same-file (cause 2 (not (formed W H (treeOf (bodyOf (restOf s)))))) _ _
-    λ z2. cut-levels W H (bodyOf (restOf s)) 4 0 [] r2 (restOf (restOf s)) (omega (arith, short f2))
-  where
-    short : leb 1 (lengthAt (restOf s)) && leb (lengthAt (restOf s)) 1365 ≡ true → lengthAt (restOf s) ≤ 1365
-    short f =
-        let m = lengthAt (restOf s) in
-        leb-true m 1365 (both (leb 1 m) (leb m 1365) f .1)
+    along _≡_ (λ n. refl) 32361 (sidesField (take n s)) (sidesField s)
+    (front-checked 1 2 2 n 32361 s (omega arith) (λ fit. omega arith) 1 (λ b. goodSides (sidesIn b)) sidesIn) _
+    λ sides rest j e l.
+    let W = sides .W in
+    let H = sides .H in
+    let c = checked-accepted 1 2 2 0 (λ b. goodSides (sidesIn b)) sidesIn s sides rest e in
+    let good = both (goodSide W) (goodSide H) (sym (ap goodSides (c .2)) ∙ c .1) in
+    along _≡_ (λ n. refl) 30993 (treeField W H (take j rest)) (treeField W H rest)
+    (front-checked 2 1 1365 j 30993 rest (omega arith) (λ fit. omega arith) 2 (λ t. formed W H (treeOf t)) (λ t. t)) _
+    λ t rest2 j2 e2 l2.
+    let small = levels-small W H (levels t) (good-side W (good .0) .1) (good-side H (good .1) .1) in
+    along _≡_ (λ n. refl) 1 (levelFields W H (levels t) 4 (take j2 rest2)) (levelFields W H (levels t) 4 rest2)
+    (front-levels W H (levels t) 4 1 j2 rest2 (omega arith)) _
+    λ cs rest3 j3 e3 l3.
+    ap (λ x. unless (cause 15 x) (contains (record { W = W; H = H; tree = t; numbers = cs }))) (cut-any j3 rest3 l3)

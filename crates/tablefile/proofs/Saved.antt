@@ -1,33 +1,35 @@
 -- The file of an acceptable table loads that table, and no other file does.
 use mathlib.Core.Path.{_≡_, refl, sym, ap, ap₂, _∙_, subst}
-use mathlib.Core.Bool.{Bool, true, false, not, _&&_}
+use mathlib.Core.Bool.{true, false}
 use mathlib.Core.List.{List, [], _∷_, _++_, append-nil, append-assoc}
 use Prim.Native.Nat.{ℕ, zero, suc, _+_, _*_, _≤_, _<_}
-use native.Mathlib.Nat.{mul-comm}
+use native.Mathlib.Nat.{mul-comm, zero-add}
 use native.Mathlib.Omega.{arith}
 use lib.IntN.{ℤ, pos}
-use lib.Dec.{leb, eqb}
-use borrow.Author.Tests.{le-leb, eq-eqb}
 use lib.ListN.{length, getD, take, drop, length-drop, take-append-drop, drop-of-length-le}
 use lib.Seq.{length-take-le, getD-drop, getD-take, drop-drop, ext-getD}
 use Rattle.finite.specs.Range.{grid, joined}
-use Rattle.finite.proofs.Table.{length-grid, getD-grid, grid-cong, place-split}
+use Rattle.finite.proofs.Table.{length-grid, getD-grid, place-split}
+use Rattle.finite.proofs.Tests.{and-intro}
 use Rattle.surface.specs.Sheet.{goodSide, functions}
 use Rattle.surface.specs.Quadtree.{Quadtree, bytes, wellFormed}
-use Rattle.surface.specs.Table.{cause, treeOf, formed, levels, start, slots, coefficients, sliceFrom, sliceOf}
-use Rattle.surface.specs.TableFile.{activeCount, loaded, allWithin}
-use Rattle.surface.specs.TableFile.{File, contains, fileOr, levelFields, fileContents}
-use Rattle.surface.proofs.Least.{and-intro}
+use Rattle.surface.specs.Support.{activeCount}
+use Rattle.surface.specs.Table.{treeOf, formed, levels, start, slots, coefficients, sliceFrom, sliceOf, limit}
+use Rattle.surface.specs.Fields.{contains, holds, numberAt, allWithin, Bytes, fieldBytes}
+use Rattle.surface.specs.TableFile.{sidesIn, goodSides, sidesField, treeField, levelLoaded, levelField, levelFields}
+use Rattle.surface.specs.TableFile.{Loaded, fileContents, levelBody, fileOf}
 use Rattle.surface.proofs.TreeForm.{AtLeaves, AtSplits, form-induction}
 use Rattle.surface.proofs.TreeBytes.{tree-length}
 use Rattle.surface.proofs.OneTree.{slice-bytes}
-use Rattle.surface.proofs.TableLaws.{none-cause, Formed, tree-formed, start-step, start-le, Sound, sides, sound}
-use Rattle.tablefile.specs.Files.{Bytes}
-use Rattle.tablefile.specs.Saved.{fieldBytes, levelBody, fileOf, SavedLoads, SavedOfLoaded}
-use Rattle.tablefile.proofs.SavedLaws.{nil-bytes, cons-bytes, append-bytes, joined-bytes}
-use Rattle.tablefile.proofs.SavedLaws.{field-bytes, field-read}
-use Rattle.tablefile.proofs.SavedLevels.{level-length, level-bytes, level-loads, level-within, level-small}
-use Rattle.tablefile.proofs.Theorems.{accepted-is-acceptable, one-file-each}
+use Rattle.surface.proofs.TableLaws.{Formed, tree-formed, start-step, start-le, slice-more, Sound, sides, sound}
+use Rattle.fields.proofs.FieldLaws.{bodyOf, restOf, body-length, body-bytes, rest-bytes, field-written}
+use Rattle.fields.proofs.FiveBytes.{numbers-determine}
+use Rattle.fields.proofs.Written.{nil-bytes, cons-bytes, append-bytes, joined-bytes, field-bytes, checked-read}
+use Rattle.tablefile.specs.Saved.{SavedLoads, SavedOfLoaded}
+use Rattle.tablefile.proofs.ActiveLaws.{active-place, loaded-active}
+use Rattle.tablefile.proofs.FileLaws.{after, levelsIn, Accepted, accepted, loaded-coefficient, accepted-sound}
+use Rattle.tablefile.proofs.SavedLevels.{level-length, level-bytes, level-number, level-loads, level-within}
+use Rattle.tablefile.proofs.SavedLevels.{level-small}
 
 -- ---- a slice is that of its own coefficients
 
@@ -96,82 +98,132 @@ tree-size W H t f =
 
 -- ---- the whole file
 
--- a file goes on where no cause applies
-goes-on : (n : ℕ) (t : Bool) (f : File) → t ≡ true → fileOr (cause n (not t)) f ≡ f
-goes-on n t f e = ap (λ c. fileOr c f) (none-cause n t e)
+-- The field of a level.
+abbrev levelWritten : ℕ → ℕ → List ℕ → List ℤ → ℕ → List ℕ
+levelWritten W H t cs L = fieldBytes (16 + L) (levelBody W H t cs L)
 
 module _ (W H : ℕ) (t : List ℕ) (cs : List ℤ) (ok : Sound W H t cs) where
-  -- The fields of the n levels from L on.
-  unfoldable levelsFrom : ℕ → ℕ → List ℕ
-  levelsFrom zero L = []
-  levelsFrom (suc n) L = fieldBytes (16 + L) (levelBody W H t cs L) ++ levelsFrom n (suc L)
+  abbrev written : ℕ → List ℕ
+  written = levelWritten W H t cs
 
-  levels-read : (n L : ℕ) (before : List ℤ) → n + L ≡ 4
-      → levelFields W H t n L before (levelsFrom n L)
-      ≡ contains (record {
-        W = W;
-        H = H;
-        tree = t;
-        numbers = before ++ sliceFrom W H (coefficients W H cs) L n;
-      })
-  unfolding levelFields levelsFrom sliceFrom
-  levels-read zero L before e =
-      ap (λ b. contains (record { W = W; H = H; tree = t; numbers = b })) (sym (append-nil before))
-  levels-read (suc n) L before e =
-      let hL : L < 4 = omega arith in
+  levels-read : (n : ℕ) → n ≤ 4 → (rest : List ℕ)
+      → levelFields W H (levels t) n (joined n written ++ rest) ≡ holds (sliceFrom W H (coefficients W H cs) 0 n) rest
+  unfolding levelFields levelField sliceFrom joined
+  levels-read zero h rest = refl
+  levels-read (suc L) h rest =
       let k = activeCount W H (levels t) L in
       let b = levelBody W H t cs L in
-      let part = grid (functions W L) (functions H L) (coefficients W H cs L) in
-      let same : grid (functions W L) (functions H L) (λ a c. loaded W H (levels t) L b a c) ≡ part =
-      grid-cong (functions W L) (functions H L) _ _ (level-loads W H t cs ok L hL) in
-      field-read (16 + L) (λ m. eqb m (5 * k)) b (levelsFrom n (suc L)) _ (level-small W H t cs ok L hL)
-      (eq-eqb (length b) (5 * k) (level-length W H t cs L))
-      ∙ goes-on 4 (allWithin L k b) _ (level-within W H t cs ok L hL)
-      ∙ ap (λ g. levelFields W H t n (suc L) (before ++ g) (levelsFrom n (suc L))) same
-      ∙ levels-read n (suc L) (before ++ part) (omega arith)
-      ∙ ap (λ s. contains (record { W = W; H = H; tree = t; numbers = s }))
-      (append-assoc before part (sliceFrom W H (coefficients W H cs) (suc L) n))
-
-  file-fields : fileOf W H t cs ≡ fieldBytes 1 (W ∷ H ∷ []) ++ (fieldBytes 2 t ++ levelsFrom 4 0)
-  unfolding fileOf joined levelsFrom
-  file-fields = simp (append-assoc, append-nil)
+      let f = coefficients W H cs in
+      let size = level-length W H t cs L in
+      let one = checked-read (16 + L) (5 * k) (5 * k) 4 (allWithin (limit L) k) (levelLoaded W H (levels t) L) b rest
+      (level-small W H t cs ok L h) (omega arith) (omega arith) (level-within W H t cs ok L h) in
+      ap (levelFields W H (levels t) (suc L)) (append-assoc (joined L written) (written L) rest)
+      ∙ rw (levels-read L (omega arith) (written L ++ rest), one)
+      (ap (λ l. holds (sliceFrom W H f 0 L ++ l) rest)
+      (level-loads W H t cs ok L h ∙ ap (λ M. grid (functions W M) (functions H M) (f M)) (sym (zero-add L)))
+      ∙ ap (λ l. holds l rest) (sym (slice-more W H f L 0)))
 
   own-numbers : sliceOf W H (coefficients W H cs) ≡ cs
   unfolding start
   own-numbers = own-slice W H cs (ok .size) 4 0 refl
 
   file-read : fileContents (fileOf W H t cs) ≡ contains (record { W = W; H = H; tree = t; numbers = cs })
-  unfolding fileContents
+  unfolding fileContents fileOf sidesField treeField
   file-read =
       let size = tree-size W H t (ok .tree) in
-      let n = length t in
-      ap fileContents file-fields
-      ∙ field-read 1 (λ n. eqb n 2) (W ∷ H ∷ []) (fieldBytes 2 t ++ levelsFrom 4 0) _ (omega arith) refl
-      ∙ goes-on 1 (goodSide W && goodSide H) _ (and-intro (goodSide W) (goodSide H) (ok .side-W) (ok .side-H))
-      ∙ field-read 2 (λ n. leb 1 n && leb n 1365) t (levelsFrom 4 0) _ (omega arith)
-      (and-intro (leb 1 n) (leb n 1365) (le-leb 1 n (size .0)) (le-leb n 1365 (size .1)))
-      ∙ goes-on 2 (formed W H (treeOf t)) _ (tree-formed W H t (ok .tree))
-      ∙ levels-read 4 0 [] refl
-      ∙ ap (λ s. contains (record { W = W; H = H; tree = t; numbers = s })) own-numbers
+      let sheet = fieldBytes 1 (W ∷ H ∷ []) in
+      let levelsPart = joined 4 written ++ [] in
+      let parts : (sheet ++ fieldBytes 2 t) ++ joined 4 written ≡ sheet ++ (fieldBytes 2 t ++ levelsPart) =
+      simp (append-assoc, append-nil) in
+      let good = and-intro (goodSide W) (goodSide H) (ok .side-W) (ok .side-H) in
+      ap fileContents parts
+      ∙ rw (
+        checked-read 1 2 2 1 (λ b. goodSides (sidesIn b)) sidesIn (W ∷ H ∷ []) (fieldBytes 2 t ++ levelsPart)
+            (omega arith) (omega arith) (omega arith) good,
+        checked-read 2 1 1365 2 (λ t. formed W H (treeOf t)) (λ t. t) t levelsPart (omega arith) (size .0) (size .1)
+            (tree-formed W H t (ok .tree)),
+        levels-read 4 (omega arith) [],
+        own-numbers,
+      )
 
   file-bytes : Bytes (fileOf W H t cs)
   unfolding fileOf
   file-bytes =
       let w = sides ok in
-      let field : ℕ → List ℕ = λ L. fieldBytes (16 + L) (levelBody W H t cs L) in
-      append-bytes (fieldBytes 1 (W ∷ H ∷ []) ++ fieldBytes 2 t) (joined 4 field)
+      append-bytes (fieldBytes 1 (W ∷ H ∷ []) ++ fieldBytes 2 t) (joined 4 written)
       (append-bytes (fieldBytes 1 (W ∷ H ∷ [])) (fieldBytes 2 t)
       (field-bytes 1 (W ∷ H ∷ []) (omega arith)
       (cons-bytes W (H ∷ []) (omega arith) (cons-bytes H [] (omega arith) nil-bytes)))
       (field-bytes 2 t (omega arith) (tree-bytes W H t (ok .tree))))
-      (joined-bytes field 4 λ L h. field-bytes (16 + L) (levelBody W H t cs L) (omega arith) (level-bytes W H t cs L))
+      (joined-bytes written 4
+      λ L h. field-bytes (16 + L) (levelBody W H t cs L) (omega arith) (level-bytes W H t cs L))
 
 -- Loading the file of an acceptable table restores the table.
 pub saved-loads : SavedLoads
 saved-loads W H t cs e = (file-read W H t cs (sound W H t cs e), file-bytes W H t cs (sound W H t cs e))
 
+-- ---- the file of what was loaded
+
+two : (b : List ℕ) → length b ≡ 2 → b ≡ getD b 0 0 ∷ getD b 1 0 ∷ []
+two [] e = absurd (omega arith)
+two (x ∷ []) e = absurd (omega arith)
+two (x ∷ y ∷ []) e = refl
+two (x ∷ y ∷ z ∷ b) e = absurd (omega arith)
+
+after-bytes : (n : ℕ) (s : List ℕ) → Bytes s → Bytes (after n s)
+unfolding after
+after-bytes zero s h = h
+after-bytes (suc n) s h = rest-bytes (after n s) (after-bytes n s h)
+
+module _ (s : List ℕ) (bs : Bytes s) (f : Loaded) (r : Accepted s f) where
+  abbrev saved : ℕ → List ℕ
+  saved = levelWritten (f .W) (f .H) (f .tree) (f .numbers)
+
+  levels-bytes : (L : ℕ) → Bytes (after L (levelsIn s))
+  levels-bytes L = after-bytes L (levelsIn s) (rest-bytes (restOf s) (rest-bytes s bs))
+
+  -- a level's numbers are those of its active functions, so its body is the one that is saved
+  same-body : (L : ℕ) → L < 4 → bodyOf (after L (levelsIn s)) ≡ levelBody (f .W) (f .H) (f .tree) (f .numbers) L
+  same-body L hL =
+      let W = f .W in
+      let H = f .H in
+      let lev = levels (f .tree) in
+      let b = after L (levelsIn s) in
+      let c = levelBody W H (f .tree) (f .numbers) L in
+      let field = r .level L hL .field in
+      numbers-determine (bodyOf b) c (body-bytes b (levels-bytes L)) (level-bytes W H (f .tree) (f .numbers) L)
+      (activeCount W H lev L) (body-length b (field .whole) ∙ omega arith) (level-length W H (f .tree) (f .numbers) L)
+      λ k h.
+      let p = active-place W H lev L k h in
+      subst (λ j. numberAt (bodyOf b) j ≡ numberAt c j) (p .5)
+      (sym (loaded-active W H lev L (bodyOf b) (p .0) (p .1) (p .4))
+      ∙ sym (loaded-coefficient s f r L (p .0) (p .1) hL (p .2) (p .3))
+      ∙ sym (level-number W H (f .tree) (f .numbers) (accepted-sound s f r) L hL (p .0) (p .1) (p .2) (p .3) (p .4)))
+
+  levels-saved : (n : ℕ) → n ≤ 4 → levelsIn s ≡ joined n saved ++ after n (levelsIn s)
+  unfolding joined after
+  levels-saved zero h = refl
+  levels-saved (suc n) h =
+      let rest = after (suc n) (levelsIn s) in
+      levels-saved n (omega arith)
+      ∙ ap (λ l. joined n saved ++ l)
+      (field-written (16 + n) _ _ (after n (levelsIn s)) (levels-bytes n) (r .level n h .field)
+      ∙ ap (λ b. fieldBytes (16 + n) b ++ rest) (same-body n h))
+      ∙ sym (append-assoc (joined n saved) (saved n) rest)
+
+  file-saved : s ≡ fileOf (f .W) (f .H) (f .tree) (f .numbers)
+  unfolding fileOf
+  file-saved =
+      let sheet = fieldBytes 1 (f .W ∷ f .H ∷ []) in
+      field-written 1 2 2 s bs (r .sides)
+      ∙ ap₂ (λ b l. fieldBytes 1 b ++ l)
+      (two (bodyOf s) (body-length s (r .sides .whole) ∙ omega (arith, r .sides .long, r .sides .short))
+      ∙ ap₂ (λ x y. x ∷ y ∷ []) (r .sideW) (r .sideH))
+      (field-written 2 1 1365 (restOf s) (rest-bytes s bs) (r .tree)
+      ∙ ap₂ (λ b l. fieldBytes 2 b ++ l) (r .treeBytes)
+      (levels-saved 4 (omega arith) ∙ ap (λ l. joined 4 saved ++ l) (r .end) ∙ append-nil (joined 4 saved)))
+      ∙ sym (append-assoc sheet (fieldBytes 2 (f .tree)) (joined 4 saved))
+
 -- Saving what was loaded from a file reproduces the file.
 pub saved-of-loaded : SavedOfLoaded
-saved-of-loaded s h f e =
-    let r = saved-loads (f .W) (f .H) (f .tree) (f .numbers) (accepted-is-acceptable s f e) in
-    one-file-each (fileOf (f .W) (f .H) (f .tree) (f .numbers)) s (r .1) h f (r .0) e
+saved-of-loaded s h f e = sym (file-saved s h f (accepted s f e))

@@ -1,26 +1,54 @@
 -- The body of a level in the file of a table: five bytes for each active function, and it reads back.
 use mathlib.Core.Path.{_≡_, refl, sym, ap, _∙_, subst}
 use mathlib.Core.Bool.{Bool, true, false, cond}
-use mathlib.Core.List.{List, []}
+use mathlib.Core.List.{List, [], _++_}
 use Prim.Native.Nat.{ℕ, zero, suc, _+_, _*_, _^_, _≤_, _<_}
 use native.Mathlib.Nat.{mul-le-mul, pow-le-pow-right}
+use native.Mathlib.Decide.{decLt}
 use native.Mathlib.Omega.{arith}
 use lib.IntN.{ℤ, natAbs}
 use lib.Dec.{leb}
 use borrow.Author.Tests.{le-leb}
-use lib.ListN.{length, getD, length-append}
-use Rattle.finite.specs.Range.{count, total, joined}
+use lib.ListN.{length, getD, length-append, List·getD-append}
+use lib.Seq.{getD-append-add}
+use Rattle.finite.specs.Range.{count, total, grid, joined}
+use Rattle.finite.proofs.Table.{grid-cong}
 use Rattle.finite.proofs.Tests.{every-intro}
 use Rattle.surface.specs.Sheet.{functions}
-use Rattle.surface.specs.Support.{active}
+use Rattle.surface.specs.Support.{active, activeInRow, activeCount, activeBefore}
 use Rattle.surface.specs.Table.{levels, coefficients, limit}
-use Rattle.surface.specs.TableFile.{numberAt, activeInRow, activeCount, activeBefore, loaded, allWithin}
+use Rattle.surface.specs.Fields.{numberAt, allWithin, Bytes, numberBytes}
+use Rattle.surface.specs.TableFile.{loaded, levelLoaded, placeBytes, rowBytes, levelBody}
 use Rattle.surface.proofs.TableLaws.{Sound, sides}
-use Rattle.tablefile.specs.Files.{Bytes}
-use Rattle.tablefile.specs.Saved.{numberBytes, placeBytes, rowBytes, levelBody}
-use Rattle.tablefile.proofs.CountLaws.{count-before}
+use Rattle.fields.proofs.Written.{nil-bytes, joined-bytes, number-bytes, number-read}
+use Rattle.tablefile.proofs.CountLaws.{total-through, count-before}
 use Rattle.tablefile.proofs.ActiveLaws.{active-place, active-count-le, loaded-active, loaded-passive}
-use Rattle.tablefile.proofs.SavedLaws.{nil-bytes, joined-bytes, joined-at, number-bytes, number-read}
+
+-- ---- lists one after the other
+
+module _ (f : ℕ → List ℕ) where
+  joined-length : (n : ℕ) → length (joined n f) ≡ total n (λ k. length (f k))
+  unfolding joined total
+  joined-length zero = refl
+  joined-length (suc n) = length-append (joined n f) (f n) ∙ ap (λ m. m + length (f n)) (joined-length n)
+
+  -- what list b holds stands after the lists before it
+  joined-at : (n b i : ℕ) → b < n → i < length (f b)
+      → getD (joined n f) (length (joined b f) + i) 0 ≡ getD (f b) i 0
+  unfolding joined
+  joined-at zero b i h l = absurd (omega arith)
+  joined-at (suc n) b i h l = go (joined-at n b i) (decLt b n)
+    where
+      go : (b < n → i < length (f b) → getD (joined n f) (length (joined b f) + i) 0 ≡ getD (f b) i 0)
+          → Dec (b < n) → getD (joined n f ++ f n) (length (joined b f) + i) 0 ≡ getD (f b) i 0
+      go ih (yes d) =
+          List·getD-append (joined n f) (f n) 0 (length (joined b f) + i)
+          (omega (arith, joined-length b, joined-length n, total-through n (λ k. length (f k)) b d))
+          ∙ ih d l
+      go ih (no d) =
+          let e : n ≡ b = omega arith in
+          ap (λ m. getD (joined m f ++ f m) (length (joined b f) + i) 0) e
+          ∙ getD-append-add (joined b f) (f b) i 0
 
 -- ---- its length and its bytes
 
@@ -95,14 +123,14 @@ module _ (W H : ℕ) (t : List ℕ) (cs : List ℤ) (L : ℕ) where
 
 -- ---- reading it back
 
-limit-small : (L : ℕ) → L < 4 → limit L < 2 ^ 39
+pub limit-small : (L : ℕ) → L < 4 → limit L < 2 ^ 39
 limit-small L h =
     let scale : 64 ^ L ≤ 64 ^ 3 = pow-le-pow-right {n = 64} (omega arith) {i = L} {j = 3} (omega arith) in
     omega arith
 
 module _ (W H : ℕ) (t : List ℕ) (cs : List ℤ) (ok : Sound W H t cs) (L : ℕ) (hL : L < 4) where
   -- the number at an active function's place is its coefficient
-  level-number : (a b : ℕ) → a < functions W L → b < functions H L → active W H (levels t) L a b ≡ true
+  pub level-number : (a b : ℕ) → a < functions W L → b < functions H L → active W H (levels t) L a b ≡ true
       → numberAt (levelBody W H t cs L) (activeBefore W H (levels t) L a b) ≡ coefficients W H cs L a b
   level-number a b ha hb e =
       number-read (levelBody W H t cs L) (activeBefore W H (levels t) L a b) (coefficients W H cs L a b)
@@ -110,9 +138,9 @@ module _ (W H : ℕ) (t : List ℕ) (cs : List ℤ) (ok : Sound W H t cs) (L : �
       (λ i h. level-at W H t cs L a b i ha hb e h)
 
   -- each function loads its coefficient, a passive one 0
-  pub level-loads : (a b : ℕ) → a < functions W L → b < functions H L
+  place-loads : (a b : ℕ) → a < functions W L → b < functions H L
       → loaded W H (levels t) L (levelBody W H t cs L) a b ≡ coefficients W H cs L a b
-  level-loads a b ha hb = go (active W H (levels t) L a b) refl
+  place-loads a b ha hb = go (active W H (levels t) L a b) refl
     where
       go : (on : Bool) → active W H (levels t) L a b ≡ on
           → loaded W H (levels t) L (levelBody W H t cs L) a b ≡ coefficients W H cs L a b
@@ -120,7 +148,11 @@ module _ (W H : ℕ) (t : List ℕ) (cs : List ℤ) (ok : Sound W H t cs) (L : �
       go false e =
           loaded-passive W H (levels t) L (levelBody W H t cs L) a b e ∙ sym (ok .passive L a b hL ha hb e)
 
-  pub level-within : allWithin L (activeCount W H (levels t) L) (levelBody W H t cs L) ≡ true
+  pub level-loads : levelLoaded W H (levels t) L (levelBody W H t cs L)
+      ≡ grid (functions W L) (functions H L) (coefficients W H cs L)
+  level-loads = grid-cong (functions W L) (functions H L) _ _ place-loads
+
+  pub level-within : allWithin (limit L) (activeCount W H (levels t) L) (levelBody W H t cs L) ≡ true
   unfolding allWithin
   level-within =
       every-intro (activeCount W H (levels t) L) (λ k. leb (natAbs (numberAt (levelBody W H t cs L) k)) (limit L))

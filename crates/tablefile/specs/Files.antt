@@ -2,16 +2,13 @@
 -- file; input longer than any file is judged by its front. Proved in proofs/Theorems.antt.
 use mathlib.Core.Path.{_≡_}
 use mathlib.Core.List.{List}
-use Prim.Native.Nat.{ℕ, _≤_, _<_}
+use Prim.Native.Nat.{ℕ, _≤_}
 use lib.IntN.{ℤ}
-use lib.ListN.{length, getD, take}
+use lib.ListN.{take}
 use Rattle.surface.specs.Table.{Acceptable}
 use Rattle.surface.specs.Calls.{gives}
-use Rattle.surface.specs.TableFile.{Loaded, contains, fileContents, FileResult, fileOutcome}
-
--- Each number of the list is a byte.
-abbrev pub Bytes : List ℕ → Type 0
-Bytes s = (i : ℕ) → i < length s → getD s i 0 < 256
+use Rattle.surface.specs.Fields.{contains, Bytes}
+use Rattle.surface.specs.TableFile.{Loaded, fileContents, FileResult, fileOutcome}
 
 -- What an accepted file loads is an acceptable table: none of 1 to 5 applies to it.
 abbrev pub AcceptedIsAcceptable : Type 0

@@ -6,18 +6,9 @@ use Rattle.activity.proofs.beyond.Statement.{statement}
 use Rattle.activity.proofs.beyond.Tie as tie
 
 returns : tie.Need-returns
-returns c =
+returns c H b _ _ =
     let a = c .before .args in
-    none-beyond (a .w) (a .h) (a .level) (a .b) (levelsOf (a .rows .now)) (c .if1 .taken)
-
-add-region-row : tie.Need-add-region-row
-add-region-row c = search needs
-
-region-row-requires : tie.Need-region-row-requires
-region-row-requires c κs = search needs
-
-returns-2 : tie.Need-returns-2
-returns-2 c = search needs
+    none-beyond (a .w) H (a .level) b (levelsOf (a .rows .now)) (c .if1 .taken)
 
 pub beyond-spec : {M : Type 1} → statement M
-beyond-spec = tie.close (tie.spec returns add-region-row region-row-requires returns-2)
+beyond-spec = tie.close (tie.spec returns (λ c. search needs) (λ c κs. search needs) (λ c. search needs))

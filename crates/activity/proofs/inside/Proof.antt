@@ -6,15 +6,9 @@ use Rattle.activity.proofs.inside.Statement.{statement}
 use Rattle.activity.proofs.inside.Tie as tie
 
 returns : tie.Need-returns
-returns c =
+returns c H b _ _ =
     let a = c .before .args in
-    all-inside (a .w) (a .h) (a .level) (a .b) (levelsOf (a .rows .now)) (c .before .pre .0) (c .if1 .taken)
-
-region-row-requires : tie.Need-region-row-requires
-region-row-requires c κs = search needs
-
-returns-2 : tie.Need-returns-2
-returns-2 c = search needs
+    all-inside (a .w) H (a .level) b (levelsOf (a .rows .now)) (c .before .pre .0) (c .if1 .taken)
 
 pub inside-spec : {M : Type 1} → statement M
-inside-spec = tie.close (tie.spec returns region-row-requires returns-2)
+inside-spec = tie.close (tie.spec returns (λ c κs. search needs) (λ c. search needs))

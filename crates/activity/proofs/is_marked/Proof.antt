@@ -1,27 +1,20 @@
 -- `is_marked` meets its contract.
 use mathlib.Core.Logic.{⊎-elim}
-use mathlib.Core.Path.{_≡_, refl}
-use Prim.Native.Nat.{_%_}
-use borrow.Author.Needs.{needs}
+use mathlib.Core.Path.{refl}
+use Prim.Native.Nat.{_*_, _/_, _%_, _≤_}
+use native.Mathlib.Nat.{mul-assoc, mul-le-mul-right}
+use native.Mathlib.Omega.{arith}
 use borrow.Author.Tests.{eq-eqb, ne-eqb}
 use Rattle.finite.specs.Bits.{bit}
 use Rattle.activity.proofs.is_marked.Statement.{statement}
 use Rattle.activity.proofs.is_marked.Tie as tie
 
-mul-place : tie.Need-mul-place
-mul-place c = search needs
-
-add-place : tie.Need-add-place
-add-place c = search needs
-
-mul-place-2 : tie.Need-mul-place-2
-mul-place-2 c = search needs
-
-sub-place : tie.Need-sub-place
-sub-place c = search needs
-
-shr-result : tie.Need-shr-result
-shr-result c = search needs
+place : (s : tie.Start) → s .args .a / 2 * s .args .e ≤ 44
+place s =
+    let a = s .args .a in
+    let e = s .args .e in
+    let halves : 2 * (a / 2) ≤ a = omega arith in
+    omega (arith, mul-le-mul-right e halves, mul-assoc 2 (a / 2) e)
 
 returns : tie.Need-returns
 unfolding bit
@@ -33,4 +26,6 @@ returns c =
     (c .before .if1 .came)
 
 pub is-marked-spec : {M : Type 1} → statement M
-is-marked-spec = tie.close (tie.spec mul-place add-place mul-place-2 sub-place shr-result returns)
+is-marked-spec =
+    tie.close
+    (tie.spec (λ c. omega (arith, place (c .before))) (λ c. omega (arith, place (c .before .before))) returns)

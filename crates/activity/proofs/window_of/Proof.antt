@@ -8,30 +8,12 @@ use Rattle.activity.proofs.WindowLaws.{eighths-le, place-le}
 use Rattle.activity.proofs.window_of.Statement.{statement}
 use Rattle.activity.proofs.window_of.Tie as tie
 
-eighths-requires : tie.Need-eighths-requires
-eighths-requires c κs = search needs
-
 -- the side of a cell is small, and so is its multiple
 small : (c : tie.After-eighths) → c .eighths .result ≤ 8
 small c = omega (arith, eighths-le (c .before .args .level))
 
 at-small : (c : tie.After-eighths) → c .before .args .a * c .eighths .result ≤ 528
 at-small c = place-le (c .before .args .a) (c .eighths .result) (c .before .pre .2) (small c)
-
-mul-at : tie.Need-mul-at
-mul-at c = omega (arith, at-small c)
-
-mul-before : tie.Need-mul-before
-mul-before c = omega (arith, small c)
-
-sub-low : tie.Need-sub-low
-sub-low c = search needs
-
-add-reach : tie.Need-add-reach
-add-reach c = omega (arith, at-small (c .before), small (c .before))
-
-mul-edge : tie.Need-mul-edge
-mul-edge c = search needs
 
 low-end : (c : tie.Joined1)
     → c .if1 .low
@@ -44,9 +26,6 @@ high-end : (c : tie.Joined2)
     (8 * c .before .before .before .args .n)
 high-end c = ⊎-elim (λ w. omega arith) (λ w. omega arith) (c .if2 .came)
 
-add-t15 : tie.Need-add-t15
-add-t15 c = omega (arith, high-end (c .before .before))
-
 returns : tie.Need-returns
 returns c =
     let ends = c .before .before in
@@ -56,4 +35,12 @@ returns c =
 pub window-of-spec : {M : Type 1} → statement M
 window-of-spec =
     tie.close
-    (tie.spec eighths-requires mul-at mul-before sub-low add-reach mul-edge add-t15 returns)
+    (tie.spec
+    (λ c κs. search needs)
+    (λ c. omega (arith, at-small c))
+    (λ c. omega (arith, small c))
+    (λ c. search needs)
+    (λ c. omega (arith, at-small (c .before), small (c .before)))
+    (λ c. search needs)
+    (λ c. omega (arith, high-end (c .before .before)))
+    returns)

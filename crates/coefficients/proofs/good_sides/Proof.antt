@@ -6,12 +6,6 @@ use Rattle.surface.specs.Sheet.{goodSide}
 use Rattle.coefficients.proofs.good_sides.Statement.{statement}
 use Rattle.coefficients.proofs.good_sides.Tie as tie
 
-good-side-requires : tie.Need-good-side-requires
-good-side-requires c κs = search needs
-
-good-side-requires-2 : tie.Need-good-side-requires-2
-good-side-requires-2 c κs = search needs
-
 returns : tie.Need-returns
 returns c =
     let first = c .before .before .good-side in
@@ -23,4 +17,4 @@ returns-2 c =
     ap (λ t. t && goodSide h) (sym (c .if1 .left) ∙ c .before .good-side .ensures)
 
 pub good-sides-spec : {M : Type 1} → statement M
-good-sides-spec = tie.close (tie.spec good-side-requires good-side-requires-2 returns returns-2)
+good-sides-spec = tie.close (tie.spec (λ c κs. search needs) (λ c κs. search needs) returns returns-2)

@@ -6,12 +6,6 @@ use borrow.Author.Needs.{needs}
 use Rattle.coefficients.proofs.places.Statement.{statement}
 use Rattle.coefficients.proofs.places.Tie as tie
 
-functions-requires : tie.Need-functions-requires
-functions-requires c κs = search needs
-
-functions-requires-2 : tie.Need-functions-requires-2
-functions-requires-2 c κs = search needs
-
 mul-result : tie.Need-mul-result
 mul-result c = record {
   fits = omega (
@@ -28,4 +22,4 @@ returns c = (
 )
 
 pub places-spec : {M : Type 1} → statement M
-places-spec = tie.close (tie.spec functions-requires functions-requires-2 mul-result returns)
+places-spec = tie.close (tie.spec (λ c κs. search needs) (λ c κs. search needs) mul-result returns)

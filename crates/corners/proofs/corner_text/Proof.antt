@@ -7,27 +7,6 @@ use borrow.Author.Needs.{needs}
 use Rattle.corners.proofs.corner_text.Statement.{statement}
 use Rattle.corners.proofs.corner_text.Tie as tie
 
-places-named-requires : tie.Need-places-named-requires
-places-named-requires c κs = search needs
-
-slice-aggregate-text-into : tie.Need-slice-aggregate-text-into
-slice-aggregate-text-into c = search needs
-
-sub-text-into : tie.Need-sub-text-into
-sub-text-into c = search needs
-
-part-numbers-start : tie.Need-part-numbers-start
-part-numbers-start c = search needs
-
-part-numbers-end : tie.Need-part-numbers-end
-part-numbers-end c = search needs
-
-text-into-requires : tie.Need-text-into-requires
-text-into-requires c κs = search needs
-
-same-length : tie.Need-same-length
-same-length c = search needs
-
 returns : tie.Need-returns
 returns c =
     let t = c .before .before .before .before in
@@ -41,12 +20,5 @@ returns c =
 pub corner-text-spec : {M : Type 1} → statement M
 corner-text-spec =
     tie.close
-    (tie.spec
-    places-named-requires
-    slice-aggregate-text-into
-    sub-text-into
-    part-numbers-start
-    part-numbers-end
-    text-into-requires
-    same-length
-    returns)
+    (tie.spec (λ c κs. search needs) (λ c. search needs) (λ c. search needs) (λ c. search needs) (λ c. search needs)
+    (λ c κs. search needs) (λ c. search needs) returns)

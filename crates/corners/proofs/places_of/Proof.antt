@@ -8,9 +8,6 @@ use borrow.Author.Needs.{needs}
 use Rattle.corners.proofs.places_of.Statement.{statement}
 use Rattle.corners.proofs.places_of.Tie as tie
 
-good-side-requires : tie.Need-good-side-requires
-good-side-requires c κs = search needs
-
 returns : tie.Need-returns
 returns c =
     let a = c .before .before .args in
@@ -18,9 +15,6 @@ returns c =
 
 wide : (c : tie.Else1) → goodSide (c .before .before .args .w) ≡ true
 wide c = sym (c .before .good-side .ensures) ∙ not-false _ (c .if1 .left)
-
-good-side-requires-2 : tie.Need-good-side-requires-2
-good-side-requires-2 c κs = search needs
 
 returns-2 : tie.Need-returns-2
 returns-2 c =
@@ -52,4 +46,4 @@ returns-3 c =
 pub places-of-spec : {M : Type 1} → statement M
 places-of-spec =
     tie.close
-    (tie.spec good-side-requires returns good-side-requires-2 returns-2 start-requires returns-3)
+    (tie.spec (λ c κs. search needs) returns (λ c κs. search needs) returns-2 start-requires returns-3)

@@ -12,9 +12,10 @@ use Rattle.surface.specs.Table.{Acceptable}
 use Rattle.surface.proofs.TableLaws.{sound, sides}
 use Rattle.rows.specs.Rows.{levelRows}
 use Rattle.finite.specs.Range.{joined}
-use Rattle.corners.specs.Text.{line, cornerLine}
-use Rattle.corners.specs.Buffers.{Put}
-use Rattle.corners.proofs.TextLaws.{line-short, put-next, put-none}
+use Rattle.text.specs.Text.{line}
+use Rattle.corners.specs.Text.{cornerLine}
+use Rattle.fields.specs.Put.{Put}
+use Rattle.text.proofs.TextLaws.{line-short, put-next, put-none}
 use Rattle.corners.proofs.row.Statement.{statement}
 use Rattle.corners.proofs.row.Tie as tie
 

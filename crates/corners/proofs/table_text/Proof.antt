@@ -1,18 +1,29 @@
 -- Before each turn the rows up to v are put after the header.
-use mathlib.Core.Path.{_≡_, refl, _∙_, subst}
-use mathlib.Core.List.{List}
+use mathlib.Core.Path.{_≡_, refl, ap₂, _∙_, subst}
+use mathlib.Core.List.{List, _++_}
 use Prim.Native.Nat.{ℕ, _+_, _-_, _*_, _≤_, _<_}
+use native.Mathlib.Numerals.{add-one}
 use native.Mathlib.Omega.{arith}
+use lib.IntN.{ℤ}
 use lib.ListN.{length}
 use Rattle.surface.proofs.TableLaws.{sound, sides}
 use Rattle.finite.specs.Range.{joined}
 use Rattle.rows.specs.Rows.{levelRows}
-use Rattle.corners.specs.Text.{header, cornerLine}
-use Rattle.corners.specs.Buffers.{Put}
+use Rattle.text.specs.Text.{header}
+use Rattle.corners.specs.Text.{cornerLine, tableText}
+use Rattle.fields.specs.Put.{Put}
 use Rattle.corners.proofs.CornerLaws.{tree-of}
-use Rattle.corners.proofs.TextLaws.{put-both, put-next, put-none, table-parts}
+use Rattle.fields.proofs.PutLaws.{put-both}
+use Rattle.text.proofs.TextLaws.{put-next, put-none}
 use Rattle.corners.proofs.table_text.Statement.{statement}
 use Rattle.corners.proofs.table_text.Tie as tie
+
+-- the header and the rows
+table-parts : (W H : ℕ) (t : List ℕ) (cs : List ℤ)
+    → header ++ joined (H + 1) (λ v. joined (W + 1) (cornerLine W H t cs v)) ≡ tableText W H t cs
+unfolding tableText
+table-parts W H t cs =
+    ap₂ (λ h w. header ++ joined h (λ v. joined w (cornerLine W H t cs v))) (add-one H) (add-one W)
 
 abbrev Inv-loop : tie.InvT-loop
 Inv-loop tree cs w h out₀ rows at₀ v₀ out at v =

@@ -8,24 +8,12 @@ use Rattle.surface.specs.TableFile.{FileResult, fileOutcome}
 use Rattle.tablefile.proofs.Theorems.{loads-acceptable}
 use Rattle.answers.specs.Answers.{fileAnswer}
 use Rattle.corners.specs.Text.{tableText, cornerText}
-use Rattle.corners.specs.Buffers.{Put}
+use Rattle.fields.specs.Put.{Put}
 use Rattle.corners.proofs.CornerLaws.{loaded-fits}
 use Rattle.corners.proofs.FileText.{loaded-text, refused-text}
 use borrow.Author.Needs.{needs}
 use Rattle.corners.proofs.text_into.Statement.{statement}
 use Rattle.corners.proofs.text_into.Tie as tie
-
-read-file-requires : tie.Need-read-file-requires
-read-file-requires c κs = search needs
-
-enum-known-r : tie.Need-enum-known-r
-enum-known-r c = search needs
-
-sub-table-text : tie.Need-sub-table-text
-sub-table-text c = search needs
-
-part-table-text-start : tie.Need-part-table-text-start
-part-table-text-start c = search needs
 
 -- what was loaded
 abbrev found : tie.After-r → FileResult
@@ -80,9 +68,6 @@ whole-text k =
     ∙ ap (λ m. tableText (r .W) (r .H) (take m (o .tree)) (o .numbers)) whole
     ∙ loaded-text (a .file .now) (a .tree .now) (a .numbers .now) r (loaded k)
 
-enum-known-r-2 : tie.Need-enum-known-r-2
-enum-known-r-2 c = search needs
-
 refused-requires : tie.Need-refused-requires
 refused-requires c κs =
     omega (
@@ -90,15 +75,6 @@ refused-requires c κs =
       c .before .before .before .before .before .before .before .before .before .before .before .before
           .before .pre .2,
     )
-
-same-length : tie.Need-same-length
-same-length c = search needs
-
-same-length-2 : tie.Need-same-length-2
-same-length-2 c = search needs
-
-same-length-3 : tie.Need-same-length-3
-same-length-3 c = search needs
 
 returns : tie.Need-returns
 returns c =
@@ -109,15 +85,6 @@ returns c =
           (d .table-text .ensures .0),
       d .table-text .ensures .1,
     )
-
-same-length-4 : tie.Need-same-length-4
-same-length-4 c = search needs
-
-same-length-5 : tie.Need-same-length-5
-same-length-5 c = search needs
-
-same-length-6 : tie.Need-same-length-6
-same-length-6 c = search needs
 
 returns-2 : tie.Need-returns-2
 returns-2 c =
@@ -135,20 +102,6 @@ returns-2 c =
 pub text-into-spec : {M : Type 1} → statement M
 text-into-spec =
     tie.close
-    (tie.spec
-    read-file-requires
-    enum-known-r
-    sub-table-text
-    part-table-text-start
-    part-table-text-end
-    table-text-requires
-    enum-known-r-2
-    refused-requires
-    same-length
-    same-length-2
-    same-length-3
-    returns
-    same-length-4
-    same-length-5
-    same-length-6
-    returns-2)
+    (tie.spec (λ c κs. search needs) (λ c. search needs) (λ c. search needs) (λ c. search needs) part-table-text-end
+    table-text-requires (λ c. search needs) refused-requires (λ c. search needs) (λ c. search needs)
+    (λ c. search needs) returns (λ c. search needs) (λ c. search needs) (λ c. search needs) returns-2)

@@ -19,12 +19,6 @@ mul-reading-at c = omega (arith, within c)
 mul-reading-at-2 : tie.Need-mul-reading-at-2
 mul-reading-at-2 c = omega (arith, within c)
 
-reading-at-requires : tie.Need-reading-at-requires
-reading-at-requires c κs = search needs
-
-whole-watts-requires : tie.Need-whole-watts-requires
-whole-watts-requires c κs = search needs
-
 returns : tie.Need-returns
 returns c =
     let n = c .before .reading-at .result in
@@ -41,4 +35,4 @@ returns c =
 pub watts-at-spec : {M : Type 1} → statement M
 watts-at-spec =
     tie.close
-    (tie.spec mul-reading-at mul-reading-at-2 reading-at-requires whole-watts-requires returns)
+    (tie.spec mul-reading-at mul-reading-at-2 (λ c κs. search needs) (λ c κs. search needs) returns)

@@ -1,28 +1,21 @@
 -- `fresh` gives the outcome of document 01: a refusal with nothing written, or the fresh table.
-use mathlib.Core.Path.{_≡_, sym, ap, _∙_}
+use mathlib.Core.Path.{_≡_, refl, sym, ap, _∙_}
+use mathlib.Core.List.{[], _∷_}
 use Prim.Native.Nat.{_≤_, _<_}
 use native.Mathlib.Omega.{arith}
 use borrow.Author.Needs.{needs}
-use lib.ListN.{length, set}
+use lib.ListN.{length}
 use lib.Seq.{set-split}
 use mir.Syntax.{w64}
 use mir.Val.{ofZ, toZ}
 use mir.ValLaws.{toZ-ofZ}
 use Rattle.surface.specs.Table.{slots}
-use Rattle.surface.specs.Calls.{freshCause}
+use Rattle.surface.specs.Calls.{freshCause, freshOutcome}
 use Rattle.coefficients.proofs.Sizes.{starts}
-use Rattle.edit.proofs.FreshLaws.{fresh-spread, fresh-none, fresh-refused, fresh-done}
+use Rattle.answers.proofs.AnswerLaws.{table-refused, table-done}
+use Rattle.edit.proofs.FreshLaws.{fresh-spread, fresh-none}
 use Rattle.edit.proofs.fresh.Statement.{statement}
 use Rattle.edit.proofs.fresh.Tie as tie
-
-fresh-cause-requires : tie.Need-fresh-cause-requires
-fresh-cause-requires c κs = search needs
-
-same-length : tie.Need-same-length
-same-length c = search needs
-
-same-length-2 : tie.Need-same-length-2
-same-length-2 c = search needs
 
 -- the cause found is the cause of the arguments
 found : (c : tie.After-fresh-cause)
@@ -36,10 +29,8 @@ found c =
     (toZ-ofZ w64 (a .number) (s .fits .number))
 
 returns : tie.Need-returns
-returns c =
-    let a = c .before .before .before .before .before .args in
-    fresh-refused (a .w) (a .h) (a .number) (a .tree-out .now) (a .numbers-out .now) (c .before .fresh-cause .result)
-    (found (c .before)) (c .if1 .taken)
+unfolding freshOutcome
+returns c = table-refused (found (c .before)) (c .if1 .taken) _ (0 ∷ []) _ _ _
 
 -- no cause applies
 none : (c : tie.Else1)
@@ -53,7 +44,7 @@ sizes : (c : tie.Else1)
     (a .w ≤ 8) × (a .h ≤ 8) × (length (a .numbers-out .now) ≡ slots (a .w) (a .h)) × (0 < length (a .tree-out .now))
 sizes c =
     let a = c .before .before .before .before .before .args in
-    fresh-none (a .w) (a .h) (a .number) (a .tree-out .now) (a .numbers-out .now) (none c)
+    fresh-none (a .w) (a .h) (a .number) (a .tree-out .now) (a .numbers-out .now) (sym (none c))
 
 places-requires : tie.Need-places-requires
 places-requires c κs = (sizes c .0, sizes c .1, omega arith)
@@ -69,13 +60,8 @@ spread-requires c κs =
 slice-write-tree-out : tie.Need-slice-write-tree-out
 slice-write-tree-out c = sizes (c .before .before .before .before) .3
 
-same-length-3 : tie.Need-same-length-3
-same-length-3 c = search needs
-
-same-length-4 : tie.Need-same-length-4
-same-length-4 c = search needs
-
 returns-2 : tie.Need-returns-2
+unfolding freshOutcome
 returns-2 c =
     let spread = c .before .spread in
     let places = c .before .before .before .places in
@@ -84,23 +70,14 @@ returns-2 c =
     let a = s .args in
     let size = sizes e in
     let numbers = a .numbers-out .now in
-    fresh-done (a .w) (a .h) (a .number) (a .tree-out .now) numbers (set (a .tree-out .now) 0 0) (spread .last .0)
-    (none e) (set-split (a .tree-out .now) 0 0 (size .3))
+    table-done (none e) refl
     (spread .ensures
     ∙ fresh-spread (a .w) (a .h) (a .number) (toZ w64 (ofZ w64 (a .number))) (places .result) (length numbers)
     (places .ensures .0) (toZ-ofZ w64 (a .number) (s .fits .number)) (size .2))
+    (0 ∷ []) (a .tree-out .now) _ numbers (set-split (a .tree-out .now) 0 0 (size .3))
 
 pub fresh-spec : {M : Type 1} → statement M
 fresh-spec =
     tie.close
-    (tie.spec
-    fresh-cause-requires
-    same-length
-    same-length-2
-    returns
-    places-requires
-    spread-requires
-    slice-write-tree-out
-    same-length-3
-    same-length-4
-    returns-2)
+    (tie.spec (λ c κs. search needs) (λ c. search needs) (λ c. search needs) returns places-requires spread-requires
+    slice-write-tree-out (λ c. search needs) (λ c. search needs) returns-2)

@@ -10,12 +10,10 @@ use mir.Val.{Fits, ofZ, toZ}
 use Rattle.surface.specs.Sheet.{functions}
 use Rattle.surface.specs.Calls.{index}
 use Rattle.activity.proofs.WindowLaws.{functions-le}
-use Rattle.edit.proofs.SignedLaws.{index-of, sum-fits, sum-is}
+use Rattle.surface.proofs.Writers.{index-of}
+use Rattle.edit.proofs.SignedLaws.{sum-fits, sum-is}
 use Rattle.edit.proofs.index.Statement.{statement}
 use Rattle.edit.proofs.index.Tie as tie
-
-add-result : tie.Need-add-result
-add-result c = sum-fits (c .args .n) (c .args .level) (c .fits .i) (c .pre .0) (c .pre .1) (c .pre .2)
 
 -- the sum is the index
 value : (c : tie.Start) → toZ w64 (ofZ w64 (toZ w64 (ofZ w64 (c .args .i)) +ℤ pos 3)) ≡ pos (index (c .args .i))
@@ -38,4 +36,9 @@ returns c = (
 )
 
 pub index-spec : {M : Type 1} → statement M
-index-spec = tie.close (tie.spec add-result cast-result returns)
+index-spec =
+    tie.close
+    (tie.spec
+    (λ c. sum-fits (c .args .n) (c .args .level) (c .fits .i) (c .pre .0) (c .pre .1) (c .pre .2))
+    cast-result
+    returns)

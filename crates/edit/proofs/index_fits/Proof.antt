@@ -17,15 +17,6 @@ returns c =
     let s = c .before in
     index-low (s .args .n) (s .args .level) (s .fits .i) (c .if1 .taken)
 
-functions-requires : tie.Need-functions-requires
-functions-requires c κs = search needs
-
-sub-cells : tie.Need-sub-cells
-sub-cells c = search needs
-
-cast-result : tie.Need-cast-result
-cast-result c = search needs
-
 returns-2 : tie.Need-returns-2
 returns-2 c =
     let s = c .before .before in
@@ -37,4 +28,11 @@ returns-2 c =
     index-high (a .n) (a .level) (s .fits .i) e (c .before .if1 .left)
 
 pub index-fits-spec : {M : Type 1} → statement M
-index-fits-spec = tie.close (tie.spec returns functions-requires sub-cells cast-result returns-2)
+index-fits-spec =
+    tie.close
+    (tie.spec
+    returns
+    (λ c κs. search needs)
+    (λ c. search needs)
+    (λ c. search needs)
+    returns-2)

@@ -8,12 +8,6 @@ use Rattle.activity.proofs.WindowLaws.{row-size, eighths-le, eighths-some}
 use Rattle.edit.proofs.is_active.Statement.{statement}
 use Rattle.edit.proofs.is_active.Tie as tie
 
-active-row-requires : tie.Need-active-row-requires
-active-row-requires c κs = search needs
-
-eighths-requires : tie.Need-eighths-requires
-eighths-requires c κs = search needs
-
 is-marked-requires : tie.Need-is-marked-requires
 is-marked-requires c κs =
     let s = c .before .before in
@@ -36,4 +30,4 @@ returns c =
     ∙ row .ensures (a .a) (e .before .before .pre .3)
 
 pub is-active-spec : {M : Type 1} → statement M
-is-active-spec = tie.close (tie.spec active-row-requires eighths-requires is-marked-requires returns)
+is-active-spec = tie.close (tie.spec (λ c κs. search needs) (λ c κs. search needs) is-marked-requires returns)

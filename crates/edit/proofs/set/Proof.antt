@@ -6,18 +6,13 @@ use borrow.Author.Needs.{needs}
 use lib.ListN.{length}
 use mir.Syntax.{w64}
 use mir.ValLaws.{toZ-ofZ}
-use Rattle.surface.specs.Calls.{indexFits, index, setCause}
+use Rattle.surface.specs.Calls.{indexFits, index, setCause, setOutcome}
+use Rattle.answers.proofs.AnswerLaws.{slice-refused, slice-done}
 use Rattle.activity.proofs.WindowLaws.{functions-le}
 use Rattle.coefficients.proofs.Parts.{level-fits, part}
-use Rattle.edit.proofs.SetLaws.{in-part, set-place, set-same, Settable, set-none, set-refused, set-done}
+use Rattle.edit.proofs.SetLaws.{in-part, set-place, set-same, Settable, set-none}
 use Rattle.edit.proofs.set.Statement.{statement}
 use Rattle.edit.proofs.set.Tie as tie
-
-set-cause-requires : tie.Need-set-cause-requires
-set-cause-requires c κs = search needs
-
-same-length : tie.Need-same-length
-same-length c = search needs
 
 -- the cause found is the cause of the arguments
 found : (c : tie.After-set-cause)
@@ -32,10 +27,8 @@ found c =
     (toZ-ofZ w64 (a .j) (s .fits .j)) (toZ-ofZ w64 (a .number) (s .fits .number))
 
 returns : tie.Need-returns
-returns c =
-    let a = c .before .before .before .before .args in
-    set-refused (a .w) (a .h) (a .tree .now) (a .numbers .now) (a .level) (a .i) (a .j) (a .number)
-    (c .before .set-cause .result) (found (c .before)) (c .if1 .taken)
+unfolding setOutcome
+returns c = slice-refused (found (c .before)) (c .if1 .taken) _ _
 
 -- no cause applies
 none : (c : tie.Else1)
@@ -85,18 +78,6 @@ places-requires c κs =
     let e = c .before .before .before .before in
     (fit e .side-W, fit e .side-H, fit e .level)
 
-add-end : tie.Need-add-end
-add-end c = search needs
-
-mul-set-in-part : tie.Need-mul-set-in-part
-mul-set-in-part c = search needs
-
-sub-set-in-part : tie.Need-sub-set-in-part
-sub-set-in-part c = search needs
-
-part-set-in-part-start : tie.Need-part-set-in-part-start
-part-set-in-part-start c = search needs
-
 -- the level's part is inside the slice
 inside : (c : tie.After-places)
     → let s = c .before .before .before .before .before .before .before .before .before in
@@ -140,10 +121,8 @@ set-in-part-requires c κs =
       at-place d,
     )
 
-same-length-2 : tie.Need-same-length-2
-same-length-2 c = search needs
-
 returns-2 : tie.Need-returns-2
+unfolding setOutcome
 returns-2 c =
     let called = c .before in
     let d = called .before .before in
@@ -154,30 +133,17 @@ returns-2 c =
     let first = d .before .before .before .index in
     let second = d .before .before .index2 in
     let start = d .before .start in
-    set-done (a .w) (a .h) (a .tree .now) (a .numbers .now) (a .level) (a .i) (a .j) (a .number) _ (none e)
+    slice-done (none e)
     (set-place (a .w) (a .h) (a .level) (first .result) (second .result) (row .result) (start .result)
     (d .places .result) (a .numbers .now) (called .set-in-part .last .0) (a .i) (a .j) (row .ensures .0)
     (start .ensures .0) (first .ensures .0 ∙ ap index (toZ-ofZ w64 (a .i) (s .fits .i)))
     (second .ensures .0 ∙ ap index (toZ-ofZ w64 (a .j) (s .fits .j)))
     (toZ-ofZ w64 (a .number) (s .fits .number)) (at-place d) (called .set-in-part .ensures))
+    (a .numbers .now)
 
 pub set-spec : {M : Type 1} → statement M
 set-spec =
     tie.close
-    (tie.spec
-    set-cause-requires
-    same-length
-    returns
-    functions-requires
-    index-requires
-    index-requires-2
-    start-requires
-    places-requires
-    add-end
-    mul-set-in-part
-    sub-set-in-part
-    part-set-in-part-start
-    part-set-in-part-end
-    set-in-part-requires
-    same-length-2
-    returns-2)
+    (tie.spec (λ c κs. search needs) (λ c. search needs) returns functions-requires index-requires index-requires-2
+    start-requires places-requires (λ c. search needs) (λ c. search needs) (λ c. search needs) (λ c. search needs)
+    part-set-in-part-end set-in-part-requires (λ c. search needs) returns-2)

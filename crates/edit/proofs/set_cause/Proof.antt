@@ -1,30 +1,29 @@
 -- Each way out of `set_cause` gives the cause of document 01.
-use mathlib.Core.Path.{_≡_, refl, sym, ap, ap₂, _∙_}
-use mathlib.Core.Bool.{Bool, true, false, _&&_}
-use borrow.Author.Needs.{needs}
+use mathlib.Core.Path.{_≡_, sym, ap, ap₂, _∙_}
+use mathlib.Core.Bool.{Bool, not, _&&_}
+use Prim.Native.Nat.{ℕ}
+use borrow.Author.Needs.{needs, sfits-of}
 use borrow.Author.Tests.{lt-ltb, le-ltb}
 use lib.Dec.{ltb, eqb}
-use lib.IntN.{ℤ, natAbs}
+use lib.IntN.{ℤ, pos, natAbs}
 use mir.Syntax.{w64}
+use mir.Val.{toZ, ofZ}
 use mir.ValLaws.{toZ-ofZ}
 use Rattle.surface.specs.Support.{active}
-use Rattle.surface.specs.Table.{levels, limit, tableCause}
+use Rattle.surface.specs.Table.{cause, _orElse_, levels, limit, tableCause}
 use Rattle.surface.specs.Calls.{indexFits, index, setCause}
+use Rattle.surface.proofs.Causes.{first, past}
 use Rattle.rows.specs.Rows.{levelsOf, levelRows}
 use Rattle.rows.proofs.RowLaws.{rows-nested}
+use Rattle.coefficients.proofs.Sizes.{limit-below}
 use Rattle.table.proofs.CauseLaws.{rows-least}
-use Rattle.edit.proofs.SetLaws.{chain, table-none, set-table, set-by}
+use Rattle.edit.proofs.SetLaws.{table-none}
 use Rattle.edit.proofs.set_cause.Statement.{statement}
 use Rattle.edit.proofs.set_cause.Tie as tie
 
-check-requires : tie.Need-check-requires
-check-requires c κs = search needs
-
 returns : tie.Need-returns
-returns c =
-    let a = c .before .before .before .before .args in
-    set-table (a .w) (a .h) (a .t .now) (a .cs .now) (a .level) (a .i) (a .j) (a .number)
-    (c .before .check .result) (c .before .check .ensures .0) (c .if1 .taken)
+unfolding setCause
+returns c = first (c .before .check .ensures .0) (c .if1 .taken) _
 
 -- past the first five causes
 none : (c : tie.Else1)
@@ -37,10 +36,8 @@ painted : (c : tie.Else1)
 painted c = c .before .check .ensures .1 (c .if1 .left)
 
 returns-2 : tie.Need-returns-2
-returns-2 c =
-    let a = c .before .before .before .before .before .args in
-    set-by (a .w) (a .h) (a .t .now) (a .cs .now) (a .level) (a .i) (a .j) (a .number) true _ _ (none (c .before))
-    (sym (lt-ltb 3 (a .level) (c .if2 .taken))) refl refl
+unfolding setCause
+returns-2 c = past (none (c .before)) (rw (lt-ltb 3 _ (c .if2 .taken)))
 
 settable-requires : tie.Need-settable-requires
 settable-requires c κs =
@@ -49,15 +46,14 @@ settable-requires c κs =
     let f = table-none (a .w) (a .h) (a .t .now) (a .cs .now) (none d) in
     (f .1, f .3, c .before .if2 .left, rw (painted d) (rows-nested (levels (a .t .now))))
 
-past-requires : tie.Need-past-requires
-past-requires c κs = search needs
-
--- by the tests of the function and of the number
-by : (c : tie.After-settable) (s p : Bool) → c .settable .result ≡ s
+-- past cause 8, by the test of the function
+may-set : (c : tie.After-settable)
     → let a = c .before .before .before .before .before .before .before .args in
-    p ≡ ltb (limit (a .level)) (natAbs (a .number))
-    → chain 0 false s p ≡ setCause (a .w) (a .h) (a .t .now) (a .cs .now) (a .level) (a .i) (a .j) (a .number)
-by c s p e q =
+    c .settable .result
+    ≡ (indexFits (a .w) (a .level) (a .i)
+    && indexFits (a .h) (a .level) (a .j)
+    && active (a .w) (a .h) (levels (a .t .now)) (a .level) (index (a .i)) (index (a .j)))
+may-set c =
     let level = c .before .before in
     let checked = level .before .before in
     let start = checked .before .before .before in
@@ -66,45 +62,61 @@ by c s p e q =
     let few = table-none (a .w) (a .h) (a .t .now) (a .cs .now) (none (level .before)) in
     let fit : ℤ → ℤ → Bool = λ i j. indexFits (a .w) (a .level) i && indexFits (a .h) (a .level) j
     && active (a .w) (a .h) (levelsOf rows) (a .level) (index i) (index j) in
-    set-by (a .w) (a .h) (a .t .now) (a .cs .now) (a .level) (a .i) (a .j) (a .number) false s p (none (level .before))
-    (sym (le-ltb 3 (a .level) (level .if2 .left)))
-    (sym e
-    ∙ c .settable .ensures
+    c .settable .ensures
     ∙ ap₂ fit (toZ-ofZ w64 (a .i) (start .fits .i)) (toZ-ofZ w64 (a .j) (start .fits .j))
     ∙ ap (λ l. indexFits (a .w) (a .level) (a .i) && indexFits (a .h) (a .level) (a .j) && eqb l (a .level))
     (rows-least (a .w) (a .h) (a .t .now) rows (a .level) (index (a .i)) (index (a .j)) (few .1) (few .3)
-    (painted (level .before))))
-    q
+    (painted (level .before)))
+
+-- past the table and the level
+by : {k : ℕ} (c : tie.After-settable)
+    → let a = c .before .before .before .before .before .before .before .args in
+    k ≡ (cause 9 (not (c .settable .result)) orElse cause 10 (ltb (limit (a .level)) (natAbs (a .number))))
+    → k ≡ setCause (a .w) (a .h) (a .t .now) (a .cs .now) (a .level) (a .i) (a .j) (a .number)
+unfolding setCause
+by c e =
+    let level = c .before .before in
+    let a = level .before .before .before .before .before .args in
+    past (none (level .before))
+    (past (ap (cause 8) (sym (le-ltb 3 _ (level .if2 .left))))
+    (e ∙ ap (λ s. cause 9 (not s) orElse cause 10 (ltb (limit (a .level)) (natAbs (a .number)))) (may-set c)))
+
+-- the limit as the machine has it
+bound : (c : tie.After-limit)
+    → let a = c .before .before .before .before .before .before .before .before .before .args in
+    toZ w64 (ofZ w64 (c .limit .result)) ≡ pos (limit (a .level))
+bound c = toZ-ofZ w64 (c .limit .result) (sfits-of (c .limit .ok)) ∙ c .limit .ensures
+
+past-requires : tie.Need-past-requires
+past-requires c κs =
+    let level = c .before .before .before .before in
+    let a = level .before .before .before .before .before .args in
+    (limit (a .level), bound c, limit-below (a .level) (level .if2 .left))
 
 -- the number's test
 size : (c : tie.After-past)
-    → let a = c .before .before .before .before .before .before .before .before .before .args in
+    → let a = c .before .before .before .before .before .before .before .before .before .before .args in
     c .past .result ≡ ltb (limit (a .level)) (natAbs (a .number))
 size c =
-    let s = c .before .before .before .before .before .before .before .before .before in
-    c .past .ensures
+    let s = c .before .before .before .before .before .before .before .before .before .before in
+    c .past .ensures (limit (s .args .level)) (bound (c .before))
     ∙ ap (λ z. ltb (limit (s .args .level)) (natAbs z)) (toZ-ofZ w64 (s .args .number) (s .fits .number))
 
 returns-3 : tie.Need-returns-3
 returns-3 c =
-    let d = c .before .before in by (d .before) true true (d .if3 .taken) (sym (c .if4 .taken) ∙ size (c .before))
+    let d = c .before .before .before in
+    by (d .before) (rw (d .if3 .taken, ← (size (c .before)), c .if4 .taken))
 
 returns-4 : tie.Need-returns-4
 returns-4 c =
-    let d = c .before .before in by (d .before) true false (d .if3 .taken) (sym (c .if4 .left) ∙ size (c .before))
+    let d = c .before .before .before in
+    by (d .before) (rw (d .if3 .taken, ← (size (c .before)), c .if4 .left))
 
 returns-5 : tie.Need-returns-5
-returns-5 c = by (c .before) false _ (c .if3 .left) refl
+returns-5 c = by (c .before) (rw (c .if3 .left))
 
 pub set-cause-spec : {M : Type 1} → statement M
 set-cause-spec =
     tie.close
-    (tie.spec
-    check-requires
-    returns
-    returns-2
-    settable-requires
-    past-requires
-    returns-3
-    returns-4
-    returns-5)
+    (tie.spec (λ c κs. search needs) returns returns-2 settable-requires (λ c κs. search needs) past-requires
+    returns-3 returns-4 returns-5)

@@ -12,12 +12,6 @@ use Rattle.edit.proofs.SetLaws.{both-fit, first-off, second-off}
 use Rattle.edit.proofs.settable.Statement.{statement}
 use Rattle.edit.proofs.settable.Tie as tie
 
-index-fits-requires : tie.Need-index-fits-requires
-index-fits-requires c κs = search needs
-
-index-fits-requires-2 : tie.Need-index-fits-requires-2
-index-fits-requires-2 c κs = search needs
-
 -- the tests of the indices
 first-fits : (c : tie.After-index-fits)
     → let a = c .before .args in c .index-fits .result ≡ indexFits (a .w) (a .level) (a .i)
@@ -43,9 +37,6 @@ index-requires-2 c κs =
     let d = c .before in
     let s = d .before .before .before .before in
     (s .pre .1, s .pre .2, sym (d .before .index-fits2 .ensures) ∙ d .if2 .taken)
-
-is-active-requires : tie.Need-is-active-requires
-is-active-requires c κs = search needs
 
 returns : tie.Need-returns
 returns c =
@@ -77,11 +68,11 @@ pub settable-spec : {M : Type 1} → statement M
 settable-spec =
     tie.close
     (tie.spec
-    index-fits-requires
-    index-fits-requires-2
+    (λ c κs. search needs)
+    (λ c κs. search needs)
     index-requires
     index-requires-2
-    is-active-requires
+    (λ c κs. search needs)
     returns
     returns-2
     returns-3)

@@ -12,36 +12,6 @@ use Rattle.edit.proofs.FreshLaws.{spread-first, spread-rest}
 use Rattle.edit.proofs.spread.Statement.{statement}
 use Rattle.edit.proofs.spread.Tie as tie
 
-sub-fill : tie.Need-sub-fill
-sub-fill c = search needs
-
-part-fill-start : tie.Need-part-fill-start
-part-fill-start c = search needs
-
-part-fill-end : tie.Need-part-fill-end
-part-fill-end c = search needs
-
-fill-requires : tie.Need-fill-requires
-fill-requires c κs = search needs
-
-mul-fill : tie.Need-mul-fill
-mul-fill c = search needs
-
-sub-fill-2 : tie.Need-sub-fill-2
-sub-fill-2 c = search needs
-
-part-fill-start-2 : tie.Need-part-fill-start-2
-part-fill-start-2 c = search needs
-
-part-fill-end-2 : tie.Need-part-fill-end-2
-part-fill-end-2 c = search needs
-
-fill-requires-2 : tie.Need-fill-requires-2
-fill-requires-2 c κs = search needs
-
-same-length : tie.Need-same-length
-same-length c = search needs
-
 returns : tie.Need-returns
 returns c =
     let s = c .before .before .before .before .before .before in
@@ -63,14 +33,14 @@ pub spread-spec : {M : Type 1} → statement M
 spread-spec =
     tie.close
     (tie.spec
-    sub-fill
-    part-fill-start
-    part-fill-end
-    fill-requires
-    mul-fill
-    sub-fill-2
-    part-fill-start-2
-    part-fill-end-2
-    fill-requires-2
-    same-length
+    (λ c. search needs)
+    (λ c. search needs)
+    (λ c. search needs)
+    (λ c κs. search needs)
+    (λ c. search needs)
+    (λ c. search needs)
+    (λ c. search needs)
+    (λ c. search needs)
+    (λ c κs. search needs)
+    (λ c. search needs)
     returns)

@@ -22,9 +22,6 @@ abs-mag : (n : ℤ) → natAbs n ≤ suc (mag n)
 abs-mag (pos a) = omega arith
 abs-mag (negsuc a) = omega arith
 
-nearest-i64-to-f64-requires : tie.Need-nearest-i64-to-f64-requires
-nearest-i64-to-f64-requires c κs = search needs
-
 -- the literal is 9 × 2^44
 returns : tie.Need-returns
 unfolding ofBits
@@ -36,4 +33,4 @@ returns c =
     (quotient-near n 9 44 room (lit≤ tt) (omega (arith, abs-mag n, f .sfits)))
 
 pub watts-spec : {M : Type 1} → statement M
-watts-spec = tie.close (tie.spec nearest-i64-to-f64-requires returns)
+watts-spec = tie.close (tie.spec (λ c κs. search needs) returns)

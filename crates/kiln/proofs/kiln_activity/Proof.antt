@@ -1,21 +1,12 @@
 use mathlib.Core.Path.{sym, ap, _∙_}
 use Rattle.answers.specs.Answers.{outcomeAnswer}
-use Rattle.kiln.proofs.CodeLaws.{code-done, code-refused}
+use Rattle.answers.proofs.CodeLaws.{code-done, code-refused}
 use borrow.Author.Needs.{needs}
 use Rattle.kiln.proofs.kiln_activity.Statement.{statement}
 use Rattle.kiln.proofs.kiln_activity.Tie as tie
 
-activity-of-requires : tie.Need-activity-of-requires
-activity-of-requires c κs = search needs
-
 enum-told : tie.Need-enum-told
 enum-told c = search needs
-
-enum-known-r : tie.Need-enum-known-r
-enum-known-r c = search needs
-
-same-length : tie.Need-same-length
-same-length c = search needs
 
 returns : tie.Need-returns
 returns c = (
@@ -23,9 +14,6 @@ returns c = (
       .ensures .0),
   c .before .before .before .before .activity-of .ensures .1,
 )
-
-same-length-2 : tie.Need-same-length-2
-same-length-2 c = search needs
 
 returns-2 : tie.Need-returns-2
 returns-2 c = (
@@ -38,11 +26,5 @@ returns-2 c = (
 pub kiln-activity-spec : {M : Type 1} → statement M
 kiln-activity-spec =
     tie.close
-    (tie.spec
-    activity-of-requires
-    enum-told
-    enum-known-r
-    same-length
-    returns
-    same-length-2
+    (tie.spec (λ c κs. search needs) enum-told (λ c. search needs) (λ c. search needs) returns (λ c. search needs)
     returns-2)

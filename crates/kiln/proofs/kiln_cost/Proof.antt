@@ -1,18 +1,9 @@
 use mathlib.Core.Path.{sym, ap, _∙_}
 use Rattle.answers.specs.Answers.{costAnswer}
-use Rattle.kiln.proofs.CodeLaws.{number-given, number-refused}
+use Rattle.answers.proofs.CodeLaws.{number-given, number-refused}
 use borrow.Author.Needs.{needs}
 use Rattle.kiln.proofs.kiln_cost.Statement.{statement}
 use Rattle.kiln.proofs.kiln_cost.Tie as tie
-
-cost-requires : tie.Need-cost-requires
-cost-requires c κs = search needs
-
-enum-known-r : tie.Need-enum-known-r
-enum-known-r c = search needs
-
-enum-known-r-2 : tie.Need-enum-known-r-2
-enum-known-r-2 c = search needs
 
 returns : tie.Need-returns
 returns c =
@@ -25,4 +16,4 @@ returns-2 c =
     (ap costAnswer (sym (c .before .r2 .given .1)) ∙ c .before .before .before .cost .ensures)
 
 pub kiln-cost-spec : {M : Type 1} → statement M
-kiln-cost-spec = tie.close (tie.spec cost-requires enum-known-r enum-known-r-2 returns returns-2)
+kiln-cost-spec = tie.close (tie.spec (λ c κs. search needs) (λ c. search needs) (λ c. search needs) returns returns-2)

@@ -1,18 +1,9 @@
 use mathlib.Core.Path.{sym, ap, _∙_}
 use Rattle.answers.specs.Answers.{displayAnswer}
-use Rattle.kiln.proofs.CodeLaws.{signed-given, number-refused}
+use Rattle.answers.proofs.CodeLaws.{signed-given, number-refused}
 use borrow.Author.Needs.{needs, sfits-of}
 use Rattle.kiln.proofs.kiln_display.Statement.{statement}
 use Rattle.kiln.proofs.kiln_display.Tie as tie
-
-display-requires : tie.Need-display-requires
-display-requires c κs = search needs
-
-enum-known-r : tie.Need-enum-known-r
-enum-known-r c = search needs
-
-enum-known-r-2 : tie.Need-enum-known-r-2
-enum-known-r-2 c = search needs
 
 returns : tie.Need-returns
 returns c =
@@ -26,4 +17,6 @@ returns-2 c =
     (ap displayAnswer (sym (c .before .r2 .given .1)) ∙ c .before .before .before .display .ensures)
 
 pub kiln-display-spec : {M : Type 1} → statement M
-kiln-display-spec = tie.close (tie.spec display-requires enum-known-r enum-known-r-2 returns returns-2)
+kiln-display-spec =
+    tie.close
+    (tie.spec (λ c κs. search needs) (λ c. search needs) (λ c. search needs) returns returns-2)

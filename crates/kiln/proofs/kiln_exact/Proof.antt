@@ -1,18 +1,9 @@
 use mathlib.Core.Path.{sym, ap, _∙_}
 use Rattle.answers.specs.Answers.{exactAnswer}
-use Rattle.kiln.proofs.CodeLaws.{signed-given, number-refused}
+use Rattle.answers.proofs.CodeLaws.{signed-given, number-refused}
 use borrow.Author.Needs.{needs, sfits-of}
 use Rattle.kiln.proofs.kiln_exact.Statement.{statement}
 use Rattle.kiln.proofs.kiln_exact.Tie as tie
-
-exact-requires : tie.Need-exact-requires
-exact-requires c κs = search needs
-
-enum-known-r : tie.Need-enum-known-r
-enum-known-r c = search needs
-
-enum-known-r-2 : tie.Need-enum-known-r-2
-enum-known-r-2 c = search needs
 
 returns : tie.Need-returns
 returns c =
@@ -26,4 +17,4 @@ returns-2 c =
     (ap exactAnswer (sym (c .before .r2 .given .1)) ∙ c .before .before .before .exact .ensures)
 
 pub kiln-exact-spec : {M : Type 1} → statement M
-kiln-exact-spec = tie.close (tie.spec exact-requires enum-known-r enum-known-r-2 returns returns-2)
+kiln-exact-spec = tie.close (tie.spec (λ c κs. search needs) (λ c. search needs) (λ c. search needs) returns returns-2)

@@ -1,24 +1,9 @@
 use mir.Syntax.{w64}
 use mir.ValLaws.{toZ-ofZ}
-use Rattle.kiln.proofs.CodeLaws.{table-given, table-refused}
+use Rattle.answers.proofs.CodeLaws.{table-given, table-refused}
 use borrow.Author.Needs.{needs}
 use Rattle.kiln.proofs.kiln_fresh.Statement.{statement}
 use Rattle.kiln.proofs.kiln_fresh.Tie as tie
-
-fresh-requires : tie.Need-fresh-requires
-fresh-requires c κs = search needs
-
-enum-known-r : tie.Need-enum-known-r
-enum-known-r c = search needs
-
-enum-known-r-2 : tie.Need-enum-known-r-2
-enum-known-r-2 c = search needs
-
-same-length : tie.Need-same-length
-same-length c = search needs
-
-same-length-2 : tie.Need-same-length-2
-same-length-2 c = search needs
 
 returns : tie.Need-returns
 returns c =
@@ -26,12 +11,6 @@ returns c =
     table-given (c .before .r .given .0 .0) (s .args .tree-length .now) (c .before .r .given .1)
     (rw (toZ-ofZ w64 (s .args .number) (s .fits .number)) at
     (c .before .before .before .before .before .before .fresh .ensures))
-
-same-length-3 : tie.Need-same-length-3
-same-length-3 c = search needs
-
-same-length-4 : tie.Need-same-length-4
-same-length-4 c = search needs
 
 returns-2 : tie.Need-returns-2
 returns-2 c =
@@ -43,13 +22,5 @@ returns-2 c =
 pub kiln-fresh-spec : {M : Type 1} → statement M
 kiln-fresh-spec =
     tie.close
-    (tie.spec
-    fresh-requires
-    enum-known-r
-    enum-known-r-2
-    same-length
-    same-length-2
-    returns
-    same-length-3
-    same-length-4
-    returns-2)
+    (tie.spec (λ c κs. search needs) (λ c. search needs) (λ c. search needs) (λ c. search needs) (λ c. search needs)
+    returns (λ c. search needs) (λ c. search needs) returns-2)

@@ -1,18 +1,9 @@
 use mathlib.Core.Path.{sym, ap, _∙_}
 use Rattle.answers.specs.Answers.{leastAnswer}
-use Rattle.kiln.proofs.CodeLaws.{told-level, told-refused}
+use Rattle.answers.proofs.CodeLaws.{told-level, told-refused}
 use borrow.Author.Needs.{needs}
 use Rattle.kiln.proofs.kiln_least_level.Statement.{statement}
 use Rattle.kiln.proofs.kiln_least_level.Tie as tie
-
-least-level-requires : tie.Need-least-level-requires
-least-level-requires c κs = search needs
-
-enum-known-r : tie.Need-enum-known-r
-enum-known-r c = search needs
-
-enum-known-r-2 : tie.Need-enum-known-r-2
-enum-known-r-2 c = search needs
 
 returns : tie.Need-returns
 returns c =
@@ -29,4 +20,5 @@ returns-2 c =
 
 pub kiln-least-level-spec : {M : Type 1} → statement M
 kiln-least-level-spec =
-    tie.close (tie.spec least-level-requires enum-known-r enum-known-r-2 returns returns-2)
+    tie.close
+    (tie.spec (λ c κs. search needs) (λ c. search needs) (λ c. search needs) returns returns-2)

@@ -1,24 +1,9 @@
 use mathlib.Core.Path.{sym, ap, _∙_}
 use Rattle.answers.specs.Answers.{fileAnswer}
-use Rattle.kiln.proofs.CodeLaws.{file-given, file-refused}
+use Rattle.answers.proofs.CodeLaws.{file-given, file-refused}
 use borrow.Author.Needs.{needs}
 use Rattle.kiln.proofs.kiln_read_file.Statement.{statement}
 use Rattle.kiln.proofs.kiln_read_file.Tie as tie
-
-read-file-requires : tie.Need-read-file-requires
-read-file-requires c κs = search needs
-
-enum-known-r : tie.Need-enum-known-r
-enum-known-r c = search needs
-
-enum-known-r-2 : tie.Need-enum-known-r-2
-enum-known-r-2 c = search needs
-
-same-length : tie.Need-same-length
-same-length c = search needs
-
-same-length-2 : tie.Need-same-length-2
-same-length-2 c = search needs
 
 returns : tie.Need-returns
 returns c =
@@ -29,12 +14,6 @@ returns c =
     (a .tree-length .now) (a .w .now) (a .h .now)
     (ap fileAnswer (sym (c .before .r .given .1)) ∙ e .0) in
     (t, e .1, e .2)
-
-same-length-3 : tie.Need-same-length-3
-same-length-3 c = search needs
-
-same-length-4 : tie.Need-same-length-4
-same-length-4 c = search needs
 
 returns-2 : tie.Need-returns-2
 returns-2 c =
@@ -48,13 +27,5 @@ returns-2 c =
 pub kiln-read-file-spec : {M : Type 1} → statement M
 kiln-read-file-spec =
     tie.close
-    (tie.spec
-    read-file-requires
-    enum-known-r
-    enum-known-r-2
-    same-length
-    same-length-2
-    returns
-    same-length-3
-    same-length-4
-    returns-2)
+    (tie.spec (λ c κs. search needs) (λ c. search needs) (λ c. search needs) (λ c. search needs) (λ c. search needs)
+    returns (λ c. search needs) (λ c. search needs) returns-2)

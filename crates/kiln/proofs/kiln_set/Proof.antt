@@ -3,22 +3,13 @@ use mir.Syntax.{w64}
 use mir.ValLaws.{toZ-ofZ}
 use Rattle.surface.specs.Calls.{setOutcome}
 use Rattle.answers.specs.Answers.{outcomeAnswer}
-use Rattle.kiln.proofs.CodeLaws.{code-done, code-refused}
+use Rattle.answers.proofs.CodeLaws.{code-done, code-refused}
 use borrow.Author.Needs.{needs}
 use Rattle.kiln.proofs.kiln_set.Statement.{statement}
 use Rattle.kiln.proofs.kiln_set.Tie as tie
 
-set-requires : tie.Need-set-requires
-set-requires c κs = search needs
-
 enum-told : tie.Need-enum-told
 enum-told c = search needs
-
-enum-known-r : tie.Need-enum-known-r
-enum-known-r c = search needs
-
-same-length : tie.Need-same-length
-same-length c = search needs
 
 -- what `set` has left, of the numbers that its bits are
 left : (c : tie.After-set)
@@ -36,9 +27,6 @@ returns c =
     let e = left (c .before .before .before) in
     (code-done tt (ap outcomeAnswer (sym (c .enum-told .given .1)) ∙ e .0), e .1)
 
-same-length-2 : tie.Need-same-length-2
-same-length-2 c = search needs
-
 returns-2 : tie.Need-returns-2
 returns-2 c =
     let e = left (c .before .before .before .before) in
@@ -47,4 +35,5 @@ returns-2 c =
 pub kiln-set-spec : {M : Type 1} → statement M
 kiln-set-spec =
     tie.close
-    (tie.spec set-requires enum-told enum-known-r same-length returns same-length-2 returns-2)
+    (tie.spec (λ c κs. search needs) enum-told (λ c. search needs) (λ c. search needs) returns (λ c. search needs)
+    returns-2)

@@ -3,19 +3,10 @@ use lib.IntN.{ℤ}
 use Rattle.surface.specs.Calls.{Answer, exactOutcome}
 use Rattle.surface.specs.FloatReading.{FloatMeets}
 use Rattle.answers.specs.Answers.{wattsAnswer}
-use Rattle.kiln.proofs.CodeLaws.{watts-given, watts-refused}
+use Rattle.answers.proofs.CodeLaws.{watts-given, watts-refused}
 use borrow.Author.Needs.{needs}
 use Rattle.kiln.proofs.kiln_watts.Statement.{statement}
 use Rattle.kiln.proofs.kiln_watts.Tie as tie
-
-watts-requires : tie.Need-watts-requires
-watts-requires c κs = search needs
-
-enum-known-r : tie.Need-enum-known-r
-enum-known-r c = search needs
-
-enum-known-r-2 : tie.Need-enum-known-r-2
-enum-known-r-2 c = search needs
 
 -- the outcome that the reading meets
 abbrev exactly : (c : tie.Start) → Answer ℤ
@@ -37,4 +28,4 @@ returns-2 c =
     (c .before .before .before .watts .ensures))
 
 pub kiln-watts-spec : {M : Type 1} → statement M
-kiln-watts-spec = tie.close (tie.spec watts-requires enum-known-r enum-known-r-2 returns returns-2)
+kiln-watts-spec = tie.close (tie.spec (λ c κs. search needs) (λ c. search needs) (λ c. search needs) returns returns-2)

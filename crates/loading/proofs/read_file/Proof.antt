@@ -6,15 +6,6 @@ use Rattle.loading.proofs.ReadLaws.{read-declined}
 use Rattle.loading.proofs.read_file.Statement.{statement}
 use Rattle.loading.proofs.read_file.Tie as tie
 
-head-judge-requires : tie.Need-head-judge-requires
-head-judge-requires c κs = search needs
-
-enum-known-f : tie.Need-enum-known-f
-enum-known-f c = search needs
-
-enum-known-f-2 : tie.Need-enum-known-f-2
-enum-known-f-2 c = search needs
-
 read-levels-requires : tie.Need-read-levels-requires
 read-levels-requires c κs =
     let k = c .before .before .before .before in
@@ -30,24 +21,8 @@ returns c =
     read-declined (a .file .now) (a .tree-out .now) (a .numbers-out .now) (k .f .given .0 .0)
     (subst (λ r. headJudged r (a .file .now) (j .head-judge .last .1 .0)) (k .f .given .1) (j .head-judge .ensures))
 
-same-length : tie.Need-same-length
-same-length c = search needs
-
-same-length-2 : tie.Need-same-length-2
-same-length-2 c = search needs
-
-returns-2 : tie.Need-returns-2
-returns-2 c = search needs
-
 pub read-file-spec : {M : Type 1} → statement M
 read-file-spec =
     tie.close
-    (tie.spec
-    head-judge-requires
-    enum-known-f
-    enum-known-f-2
-    read-levels-requires
-    returns
-    same-length
-    same-length-2
-    returns-2)
+    (tie.spec (λ c κs. search needs) (λ c. search needs) (λ c. search needs) read-levels-requires returns
+    (λ c. search needs) (λ c. search needs) (λ c. search needs))

@@ -5,18 +5,6 @@ use Rattle.patch.proofs.Four.{four}
 use Rattle.patch.proofs.along.Statement.{statement}
 use Rattle.patch.proofs.along.Tie as tie
 
-column-requires : tie.Need-column-requires
-column-requires c κs = search needs
-
-column-requires-2 : tie.Need-column-requires-2
-column-requires-2 c κs = search needs
-
-column-requires-3 : tie.Need-column-requires-3
-column-requires-3 c κs = search needs
-
-column-requires-4 : tie.Need-column-requires-4
-column-requires-4 c κs = search needs
-
 returns : tie.Need-returns
 unfolding alongOf
 returns c =
@@ -27,4 +15,4 @@ returns c =
 pub along-spec : {M : Type 1} → statement M
 along-spec =
     tie.close
-    (tie.spec column-requires column-requires-2 column-requires-3 column-requires-4 returns)
+    (tie.spec (λ c κs. search needs) (λ c κs. search needs) (λ c κs. search needs) (λ c κs. search needs) returns)

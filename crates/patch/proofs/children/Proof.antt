@@ -4,21 +4,6 @@ use Rattle.patch.proofs.Subdivision.{first-half, second-half, even-valu
 use Rattle.patch.proofs.children.Statement.{statement}
 use Rattle.patch.proofs.children.Tie as tie
 
-odd-requires : tie.Need-odd-requires
-odd-requires c κs = search needs
-
-even-requires : tie.Need-even-requires
-even-requires c κs = search needs
-
-odd-requires-2 : tie.Need-odd-requires-2
-odd-requires-2 c κs = search needs
-
-even-requires-2 : tie.Need-even-requires-2
-even-requires-2 c κs = search needs
-
-even-requires-3 : tie.Need-even-requires-3
-even-requires-3 c κs = search needs
-
 returns : tie.Need-returns
 returns c =
     let o = c .before .before in
@@ -48,11 +33,5 @@ returns-2 c =
 pub children-spec : {M : Type 1} → statement M
 children-spec =
     tie.close
-    (tie.spec
-    odd-requires
-    even-requires
-    odd-requires-2
-    even-requires-2
-    even-requires-3
-    returns
-    returns-2)
+    (tie.spec (λ c κs. search needs) (λ c κs. search needs) (λ c κs. search needs) (λ c κs. search needs)
+    (λ c κs. search needs) returns returns-2)

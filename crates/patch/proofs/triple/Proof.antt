@@ -1,4 +1,4 @@
--- 16 × 16 × 16 is 4096.
+-- 128 × 128 × 128 is 2097152.
 use mathlib.Core.Path.{refl}
 use native.Mathlib.Nat.{mul-le-mul}
 use native.Mathlib.Omega.{arith}

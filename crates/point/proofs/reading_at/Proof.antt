@@ -1,5 +1,5 @@
 -- The patch of each level is that of document 01 under the rows, and so under the tree that the rows are of.
-use mathlib.Core.Path.{_≡_, _∙_}
+use mathlib.Core.Path.{_≡_, refl, _∙_}
 use Prim.Native.Nat.{_-_, _*_, _≤_, _<_}
 use native.Mathlib.Omega.{arith}
 use lib.Dec.{lit<, lit≤}
@@ -7,7 +7,8 @@ use lib.ListN.{length}
 use mir.Syntax.{w64}
 use mir.ValLaws.{toZ-ofZ}
 use borrow.Author.Needs.{sfits-of}
-use Rattle.surface.specs.Table.{slots}
+use Rattle.surface.specs.Sheet.{eighths}
+use Rattle.surface.specs.Table.{slots, limit}
 use Rattle.point.proofs.PatchLaws.{steps-left, point-ready, patch-bounded, finer-ready, reading-of}
 use Rattle.point.proofs.reading_at.Statement.{statement}
 use Rattle.point.proofs.reading_at.Tie as tie
@@ -81,15 +82,14 @@ sub-evaluate-2 : tie.Need-sub-evaluate-2
 sub-evaluate-2 c = omega (arith, left-v c .0)
 
 evaluate-requires : tie.Need-evaluate-requires
+unfolding eighths
 evaluate-requires c κs =
     let d = c .before .before in
     let s = d .before .before .before .before in
-    let a = s .args in (
-      omega (arith, left-u c .1),
-      omega (arith, left-v c .1),
-      patch-bounded (a .w) (a .h) (a .rows .now) (a .cs .now) (a .u) (a .v) (s .pre) 3 8388608000 (d .finer3 .result)
-          (lit< tt) (lit≤ tt) (d .finer3 .ensures),
-    )
+    let a = s .args in
+    let b = patch-bounded (a .w) (a .h) (a .rows .now) (a .cs .now) (a .u) (a .v) (s .pre) 3 (limit 3)
+    (d .finer3 .result) (lit< tt) (lit≤ tt) (d .finer3 .ensures) in
+    (omega (arith, left-u c .1), omega (arith, left-v c .1), (3, lit< tt, refl, b))
 
 returns : tie.Need-returns
 returns c = λ t painted acc.

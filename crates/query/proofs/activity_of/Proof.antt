@@ -1,29 +1,40 @@
 -- Each way out of `activity_of` gives the outcome of document 01.
-use mathlib.Core.Path.{_≡_, sym, ap₂, _∙_}
-use Prim.Native.Nat.{_*_}
+use mathlib.Core.Path.{_≡_, sym, ap, ap₂, _∙_}
+use mathlib.Core.Bool.{cond}
+use mathlib.Core.List.{List}
+use Prim.Native.Nat.{ℕ, _*_, _≤_}
 use native.Mathlib.Omega.{arith}
 use borrow.Author.Needs.{needs}
+use borrow.Author.Tests.{lt-ltb, le-ltb, eq-eqb, ne-eqb}
+use lib.Dec.{eqb}
 use lib.ListN.{length}
+use Rattle.finite.proofs.Table.{grid-cong}
+use Rattle.surface.specs.Sheet.{functions}
+use Rattle.surface.specs.Support.{active}
 use Rattle.surface.specs.Table.{levels, places, regionCause}
+use Rattle.surface.specs.Calls.{activityBytes, activityCause, activityOutcome}
+use Rattle.surface.proofs.Causes.{first, past}
 use Rattle.rows.specs.Rows.{levelRows}
 use Rattle.rows.proofs.RowLaws.{rows-nested}
-use Rattle.table.proofs.CauseLaws.{region-none}
-use Rattle.query.proofs.QueryLaws.{activity-region, activity-level, activity-length, activity-none}
-use Rattle.query.proofs.QueryLaws.{activity-refused, activity-done, marks}
+use Rattle.activity.specs.Mark.{levelMarks, activeMark}
+use Rattle.answers.proofs.AnswerLaws.{slice-refused, slice-done}
+use Rattle.table.proofs.CauseLaws.{region-none, rows-least}
 use Rattle.query.proofs.activity_of.Statement.{statement}
 use Rattle.query.proofs.activity_of.Tie as tie
 
-region-cause-requires : tie.Need-region-cause-requires
-region-cause-requires c κs = search needs
+-- the marks under the rows are the bytes under the tree
+marks : (W H : ℕ) (t : List ℕ) (L : ℕ) (rows new : List ℕ) → W ≤ 8 → H ≤ 8 → rows ≡ levelRows t
+    → new ≡ levelMarks W H L rows → new ≡ activityBytes W H t L
+unfolding activityBytes
+marks W H t L rows new hW hH e m =
+    m
+    ∙ grid-cong (functions W L) (functions H L) (activeMark W H L rows) (λ a b. cond (active W H (levels t) L a b) 1 0)
+    λ a b _ _. ap (λ l. cond (eqb l L) 1 0)
+    (rows-least W H t rows L a b hW hH e)
 
 returns : tie.Need-returns
-returns c =
-    let a = c .before .before .before .before .before .args in
-    let n = c .before .region-cause .result in
-    activity-refused (a .w) (a .h) (a .tree .now) (a .level) (a .out .now) n
-    (activity-region (a .w) (a .h) (a .tree .now) (a .level) (a .out .now) n (c .before .region-cause .ensures .0)
-    (c .if1 .taken))
-    (c .if1 .taken)
+unfolding activityOutcome activityCause
+returns c = slice-refused (first (c .before .region-cause .ensures .0) (c .if1 .taken) _) (c .if1 .taken) _ _
 
 -- past causes 1 and 2
 none : (c : tie.Else1)
@@ -37,11 +48,8 @@ painted : (c : tie.Else1)
 painted c = c .before .region-cause .ensures .1 (c .if1 .left)
 
 returns-2 : tie.Need-returns-2
-returns-2 c =
-    let a = c .before .before .before .before .before .before .args in
-    activity-refused (a .w) (a .h) (a .tree .now) (a .level) (a .out .now) 8
-    (activity-level (a .w) (a .h) (a .tree .now) (a .level) (a .out .now) (none (c .before)) (c .if2 .taken))
-    (omega arith)
+unfolding activityOutcome activityCause
+returns-2 c = slice-refused (past (none (c .before)) (rw (lt-ltb 3 _ (c .if2 .taken)))) (λ z. omega arith) _ _
 
 places-requires : tie.Need-places-requires
 places-requires c κs =
@@ -50,14 +58,13 @@ places-requires c κs =
     (sides .1, sides .2, c .if2 .left)
 
 returns-3 : tie.Need-returns-3
+unfolding activityOutcome activityCause
 returns-3 c =
     let e = c .before .before in
-    let a = e .before .before .before .before .before .before .args in
-    let other : length (a .out .now) ≡ places (a .w) (a .h) (a .level) → ⊥ =
-    λ p. c .if3 .taken (p ∙ sym (c .before .places .ensures .0)) in
-    activity-refused (a .w) (a .h) (a .tree .now) (a .level) (a .out .now) 16
-    (activity-length (a .w) (a .h) (a .tree .now) (a .level) (a .out .now) (none (e .before)) (e .if2 .left) other)
-    (omega arith)
+    slice-refused
+    (past (none (e .before))
+    (rw (le-ltb 3 _ (e .if2 .left), ne-eqb _ _ (λ p. c .if3 .taken (p ∙ sym (c .before .places .ensures .0))))))
+    (λ z. omega arith) _ _
 
 -- past cause 16
 size : (c : tie.Else3)
@@ -91,10 +98,8 @@ mark-level-requires c κs =
     let m = g .functions2 .ensures .0 in
     (sides .1, sides .2, e .if2 .left, n, m, size i ∙ sym (ap₂ _*_ n m), rw (painted d) (rows-nested (levels t)))
 
-same-length : tie.Need-same-length
-same-length c = search needs
-
 returns-4 : tie.Need-returns-4
+unfolding activityOutcome activityCause
 returns-4 c =
     let k = c .before .before in
     let i = k .before .before .before .before .before in
@@ -102,22 +107,12 @@ returns-4 c =
     let a = e .before .before .before .before .before .before .args in
     let t = a .tree .now in
     let sides = region-none (a .w) (a .h) t (none (e .before)) in
-    activity-done (a .w) (a .h) t (a .level) (a .out .now) _
-    (activity-none (a .w) (a .h) t (a .level) (a .out .now) (none (e .before)) (e .if2 .left) (size i))
-    (marks (a .w) (a .h) t (a .level) _ _ (sides .1) (sides .2) (painted (e .before))
-    (k .mark-level .ensures))
+    slice-done (past (none (e .before)) (rw (le-ltb 3 _ (e .if2 .left), eq-eqb _ _ (size i))))
+    (marks (a .w) (a .h) t (a .level) _ _ (sides .1) (sides .2) (painted (e .before)) (k .mark-level .ensures))
+    (a .out .now)
 
 pub activity-of-spec : {M : Type 1} → statement M
 activity-of-spec =
     tie.close
-    (tie.spec
-    region-cause-requires
-    returns
-    returns-2
-    places-requires
-    returns-3
-    functions-requires
-    functions-requires-2
-    mark-level-requires
-    same-length
-    returns-4)
+    (tie.spec (λ c κs. search needs) returns returns-2 places-requires returns-3 functions-requires
+    functions-requires-2 mark-level-requires (λ c. search needs) returns-4)

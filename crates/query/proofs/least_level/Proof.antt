@@ -1,12 +1,15 @@
 -- Each way out of `least_level` gives the outcome of document 01.
-use mathlib.Core.Path.{_≡_, sym, _∙_}
+use mathlib.Core.Path.{_≡_, sym, ap₂, _∙_}
+use Prim.Native.Nat.{_≤_}
 use native.Mathlib.Omega.{arith}
 use borrow.Author.Needs.{needs}
-use Rattle.surface.specs.Sheet.{Box}
+use Rattle.finite.proofs.Minima.{least-le-top}
+use Rattle.surface.specs.Sheet.{Box, quarters}
 use Rattle.surface.specs.Table.{regionCause}
-use Rattle.surface.specs.Calls.{boxCause}
+use Rattle.surface.specs.Calls.{boxCause, leastOutcome}
+use Rattle.surface.proofs.Causes.{first, past}
+use Rattle.answers.proofs.AnswerLaws.{refused-with, gives-with}
 use Rattle.table.proofs.CauseLaws.{region-none, box-none}
-use Rattle.query.proofs.QueryLaws.{least-region, least-box, least-found, least-byte}
 use Rattle.query.proofs.least_level.Statement.{statement}
 use Rattle.query.proofs.least_level.Tie as tie
 
@@ -14,15 +17,9 @@ use Rattle.query.proofs.least_level.Tie as tie
 abbrev boxAt : (c : tie.Start) → Box
 boxAt c = record { u0 = c .args .u0; v0 = c .args .v0; u1 = c .args .u1; v1 = c .args .v1 }
 
-region-cause-requires : tie.Need-region-cause-requires
-region-cause-requires c κs = search needs
-
 returns : tie.Need-returns
-returns c =
-    let s = c .before .before .before .before in
-    let a = s .args in
-    least-region (a .w) (a .h) (a .tree .now) (boxAt s) (c .before .region-cause .result)
-    (c .before .region-cause .ensures .0) (c .if1 .taken)
+unfolding leastOutcome
+returns c = refused-with (first (c .before .region-cause .ensures .0) (c .if1 .taken) _) (c .if1 .taken) _
 
 -- past causes 1 and 2
 none : (c : tie.Else1)
@@ -36,51 +33,38 @@ box-cause-requires c κs =
     (sides .1, sides .2)
 
 returns-2 : tie.Need-returns-2
-returns-2 c =
-    let d = c .before .before in
-    let s = d .before .before .before .before in
-    let a = s .args in
-    least-box (a .w) (a .h) (a .tree .now) (boxAt s) (c .before .box-cause .result) (none d)
-    (c .before .box-cause .ensures) (c .if2 .taken)
+unfolding leastOutcome
+returns-2 c = refused-with (past (none (c .before .before)) (c .before .box-cause .ensures)) (c .if2 .taken) _
 
 -- past cause 7
 inside : (c : tie.Else2)
     → let s = c .before .before .before .before .before .before in 0 ≡ boxCause (s .args .w) (s .args .h) (boxAt s)
 inside c = sym (c .if2 .left) ∙ c .before .box-cause .ensures
 
-least-under-requires : tie.Need-least-under-requires
-least-under-requires c κs =
+under-requires : tie.Need-under-requires
+under-requires c κs =
     let d = c .before .before in
     let s = d .before .before .before .before in
     let a = s .args in
     let sides = region-none (a .w) (a .h) (a .tree .now) (none d) in
     (sides .1, sides .2, sides .3, box-none (a .w) (a .h) (boxAt s) (inside c))
 
+-- the level found is at most 3, so that it is a byte
 cast-t15 : tie.Need-cast-t15
 cast-t15 c =
-    let s = c .before .before .before .before .before .before .before .before in
-    let a = s .args in
-    let u = c .before .least-under in
-    let low = least-byte (a .w) (a .h) (a .tree .now) (boxAt s) (u .result .least) (u .result .visited) (u .ensures) in
-    omega (arith, low)
+    let a = c .before .before .before .before .before .before .before .before .args in
+    let low : c .before .under .result .least ≤ 3 =
+    rw (c .before .under .ensures .lowest) (least-le-top 3 (quarters (a .w)) _) in
+    omega arith
 
 returns-3 : tie.Need-returns-3
+unfolding leastOutcome
 returns-3 c =
-    let d = c .before .before .before .before in
-    let s = d .before .before .before .before in
-    let a = s .args in
-    let u = c .before .least-under in
-    least-found (a .w) (a .h) (a .tree .now) (boxAt s) (u .result .least) (u .result .visited) (none d)
-    (inside (c .before .before)) (u .ensures)
+    let u = c .before .under .ensures in
+    gives-with (past (none (c .before .before .before .before)) (inside (c .before .before)))
+    (ap₂ (λ l v. record { level = l; visited = v }) (u .lowest) (u .counted))
 
 pub least-level-spec : {M : Type 1} → statement M
 least-level-spec =
     tie.close
-    (tie.spec
-    region-cause-requires
-    returns
-    box-cause-requires
-    returns-2
-    least-under-requires
-    cast-t15
-    returns-3)
+    (tie.spec (λ c κs. search needs) returns box-cause-requires returns-2 under-requires cast-t15 returns-3)

@@ -10,27 +10,12 @@ use Rattle.readings.proofs.ReadingLaws.{tariff-refused, cost-given, cos
 use Rattle.readings.proofs.cost.Statement.{statement}
 use Rattle.readings.proofs.cost.Tie as tie
 
-exact-requires : tie.Need-exact-requires
-exact-requires c κs = search needs
-
-enum-known-r : tie.Need-enum-known-r
-enum-known-r c = search needs
-
 returns : tie.Need-returns
 returns c =
     let k = c .before .before in
     let a = k .before .before .before .before .args in
     tariff-refused (a .w) (a .h) (a .tree .now) (a .cs .now) (a .u) (a .v) (k .r .given .0 .0)
     (ap exactAnswer (sym (k .r .given .1)) ∙ k .before .before .exact .ensures) (a .tariff) (c .if1 .taken)
-
-whole-watts-requires : tie.Need-whole-watts-requires
-whole-watts-requires c κs = search needs
-
-cost-of-requires : tie.Need-cost-of-requires
-cost-of-requires c κs = search needs
-
-enum-known-r-2 : tie.Need-enum-known-r-2
-enum-known-r-2 c = search needs
 
 returns-2 : tie.Need-returns-2
 returns-2 c =
@@ -57,12 +42,5 @@ returns-3 c =
 pub cost-spec : {M : Type 1} → statement M
 cost-spec =
     tie.close
-    (tie.spec
-    exact-requires
-    enum-known-r
-    returns
-    whole-watts-requires
-    cost-of-requires
-    enum-known-r-2
-    returns-2
-    returns-3)
+    (tie.spec (λ c κs. search needs) (λ c. search needs) returns (λ c κs. search needs) (λ c κs. search needs)
+    (λ c. search needs) returns-2 returns-3)

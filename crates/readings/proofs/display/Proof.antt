@@ -10,18 +10,6 @@ use Rattle.readings.proofs.ReadingLaws.{display-given, display-refused}
 use Rattle.readings.proofs.display.Statement.{statement}
 use Rattle.readings.proofs.display.Tie as tie
 
-exact-requires : tie.Need-exact-requires
-exact-requires c κs = search needs
-
-enum-known-r : tie.Need-enum-known-r
-enum-known-r c = search needs
-
-whole-watts-requires : tie.Need-whole-watts-requires
-whole-watts-requires c κs = search needs
-
-enum-known-r-2 : tie.Need-enum-known-r-2
-enum-known-r-2 c = search needs
-
 returns : tie.Need-returns
 returns c =
     let k = c .before .before in
@@ -46,4 +34,5 @@ returns-2 c =
 pub display-spec : {M : Type 1} → statement M
 display-spec =
     tie.close
-    (tie.spec exact-requires enum-known-r whole-watts-requires enum-known-r-2 returns returns-2)
+    (tie.spec (λ c κs. search needs) (λ c. search needs) (λ c κs. search needs) (λ c. search needs) returns
+    returns-2)

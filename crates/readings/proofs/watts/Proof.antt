@@ -11,18 +11,6 @@ use Rattle.readings.proofs.ReadingLaws.{watts-given, watts-refused}
 use Rattle.readings.proofs.watts.Statement.{statement}
 use Rattle.readings.proofs.watts.Tie as tie
 
-exact-requires : tie.Need-exact-requires
-exact-requires c κs = search needs
-
-enum-known-r : tie.Need-enum-known-r
-enum-known-r c = search needs
-
-watts-requires : tie.Need-watts-requires
-watts-requires c κs = search needs
-
-enum-known-r-2 : tie.Need-enum-known-r-2
-enum-known-r-2 c = search needs
-
 returns : tie.Need-returns
 returns c =
     let k = c .before .before in
@@ -44,4 +32,5 @@ returns-2 c =
 pub watts-spec : {M : Type 1} → statement M
 watts-spec =
     tie.close
-    (tie.spec exact-requires enum-known-r watts-requires enum-known-r-2 returns returns-2)
+    (tie.spec (λ c κs. search needs) (λ c. search needs) (λ c κs. search needs) (λ c. search needs) returns
+    returns-2)

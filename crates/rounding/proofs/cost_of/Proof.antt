@@ -6,7 +6,8 @@ use lib.IntN.{pos, natAbs}
 use lib.Signed.{mag}
 use mir.Syntax.{w64}
 use mir.Val.{toZ, ofZ}
-use Rattle.rounding.proofs.RoundingLaws.{below, not-below, as-is, cast-up, cost-none, cost-some, product-small}
+use Rattle.finite.proofs.Signed.{below, not-below, as-is, cast-up}
+use Rattle.rounding.proofs.CostLaws.{cost-none, cost-some, product-small}
 use Rattle.rounding.proofs.cost_of.Statement.{statement}
 use Rattle.rounding.proofs.cost_of.Tie as tie
 

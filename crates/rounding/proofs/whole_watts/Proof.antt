@@ -6,12 +6,6 @@ use Rattle.rounding.proofs.FloorLaws.{more-fits, whole-more, whole-same
 use Rattle.rounding.proofs.whole_watts.Statement.{statement}
 use Rattle.rounding.proofs.whole_watts.Tie as tie
 
-floor-over-d-requires : tie.Need-floor-over-d-requires
-floor-over-d-requires c κs = search needs
-
-left-over-requires : tie.Need-left-over-requires
-left-over-requires c κs = search needs
-
 known : (c : tie.After-left-over)
     → Floored (c .before .before .args .n) (c .before .floor-over-d .result) (c .left-over .result)
 known c =
@@ -32,4 +26,4 @@ returns-2 c =
     whole-more d (omega arith) (omega (arith, ltZ-false-up, d, tested-left d))
 
 pub whole-watts-spec : {M : Type 1} → statement M
-whole-watts-spec = tie.close (tie.spec floor-over-d-requires left-over-requires add-result returns returns-2)
+whole-watts-spec = tie.close (tie.spec (λ c κs. search needs) (λ c κs. search needs) add-result returns returns-2)

@@ -1,7 +1,7 @@
 -- `none_in` meets its contract: before each turn no square of the first i rows lies in the region.
 use mathlib.Core.Bool.{true≢false, false≢true}
-use mathlib.Core.Path.{_≡_, sym}
-use Prim.Native.Nat.{_≤_, _+_, _-_}
+use mathlib.Core.Path.{_≡_}
+use Prim.Native.Nat.{_≤_, _-_}
 use native.Mathlib.Omega.{arith}
 use Rattle.rows.specs.Rows.{NoneIn}
 use Rattle.rows.proofs.NoneLaws.{none-more, none-met}
@@ -14,26 +14,8 @@ Inv-loop rows l x y side mask i₀ i = (i ≤ side) × NoneIn l x y side i rows
 abbrev μ-loop : tie.MeasureT-loop
 μ-loop rows l x y side mask i₀ i = side - i
 
-span-requires : tie.Need-span-requires Inv-loop μ-loop
-span-requires c κs = omega arith
-
 loop-holds : tie.Need-loop-holds Inv-loop μ-loop
 loop-holds c = (omega arith, λ q r xq qx yr ry. absurd (omega arith))
-
-mul-if1 : tie.Need-mul-if1 Inv-loop μ-loop
-mul-if1 c = omega arith
-
-add-if1 : tie.Need-add-if1 Inv-loop μ-loop
-add-if1 c = omega arith
-
-add-if1-2 : tie.Need-add-if1-2 Inv-loop μ-loop
-add-if1-2 c = omega arith
-
-mul-if1-2 : tie.Need-mul-if1-2 Inv-loop μ-loop
-mul-if1-2 c = omega arith
-
-element-copy-out-if1 : tie.Need-element-copy-out-if1 Inv-loop μ-loop
-element-copy-out-if1 c = omega arith
 
 returns : tie.Need-returns Inv-loop μ-loop
 returns c =
@@ -46,12 +28,6 @@ returns c =
           (none-met (a .rows .now) (a .l) (a .x) (a .side) (call .span .result) (s .pre .2) (call .span .ensures)
           (a .y) (at-loop .loop .i) (call .span .ok) (λ q r xq qx yr ry. none q r xq qx yr (omega arith))),
     )
-
-add-i : tie.Need-add-i Inv-loop μ-loop
-add-i c = omega arith
-
-loop-less : tie.Need-loop-less Inv-loop μ-loop
-loop-less c = omega arith
 
 loop-again : tie.Need-loop-again Inv-loop μ-loop
 loop-again c =
@@ -73,18 +49,6 @@ returns-2 c =
 pub none-in-spec : {M : Type 1} → statement M
 none-in-spec =
     tie.close
-    (tie.spec
-    Inv-loop
-    μ-loop
-    span-requires
-    loop-holds
-    mul-if1
-    add-if1
-    add-if1-2
-    mul-if1-2
-    element-copy-out-if1
-    returns
-    add-i
-    loop-less
-    loop-again
-    returns-2)
+    (tie.spec Inv-loop μ-loop (λ c κs. omega arith) loop-holds (λ c. omega arith) (λ c. omega arith)
+    (λ c. omega arith) (λ c. omega arith) (λ c. omega arith) returns (λ c. omega arith) (λ c. omega arith)
+    loop-again returns-2)

@@ -31,21 +31,6 @@ returns c =
     let a = s .args in
     raised-none (a .x) (a .y) 1 (a .level) (a .rows .now) (omega arith) (s .pre .3)
 
-span-requires : tie.Need-span-requires
-span-requires c κs = search needs
-
-mul-rows : tie.Need-mul-rows
-mul-rows c = search needs
-
-element-copy-out-rows : tie.Need-element-copy-out-rows
-element-copy-out-rows c = search needs
-
-mul-rows-2 : tie.Need-mul-rows-2
-mul-rows-2 c = search needs
-
-element-write-rows : tie.Need-element-write-rows
-element-write-rows c = search needs
-
 returns-2 : tie.Need-returns-2
 returns-2 c =
     let call = c .before .before in
@@ -57,24 +42,6 @@ returns-2 c =
     (call .span .ensures)
     (first s (call .span .result))
 
-add-rows : tie.Need-add-rows
-add-rows c = search needs
-
-mul-rows-3 : tie.Need-mul-rows-3
-mul-rows-3 c = search needs
-
-element-copy-out-rows-2 : tie.Need-element-copy-out-rows-2
-element-copy-out-rows-2 c = search needs
-
-add-rows-2 : tie.Need-add-rows-2
-add-rows-2 c = search needs
-
-mul-rows-4 : tie.Need-mul-rows-4
-mul-rows-4 c = search needs
-
-element-write-rows-2 : tie.Need-element-write-rows-2
-element-write-rows-2 c = search needs
-
 returns-3 : tie.Need-returns-3
 returns-3 c =
     let call = c .before .before .before .before in
@@ -85,24 +52,6 @@ returns-3 c =
     (call .span .ok)
     (call .span .ensures)
     (second s (call .span .result))
-
-add-rows-3 : tie.Need-add-rows-3
-add-rows-3 c = search needs
-
-mul-rows-5 : tie.Need-mul-rows-5
-mul-rows-5 c = search needs
-
-element-copy-out-rows-3 : tie.Need-element-copy-out-rows-3
-element-copy-out-rows-3 c = search needs
-
-add-rows-4 : tie.Need-add-rows-4
-add-rows-4 c = search needs
-
-mul-rows-6 : tie.Need-mul-rows-6
-mul-rows-6 c = search needs
-
-element-write-rows-3 : tie.Need-element-write-rows-3
-element-write-rows-3 c = search needs
 
 returns-4 : tie.Need-returns-4
 returns-4 c =
@@ -119,25 +68,7 @@ returns-4 c =
 pub raise-quarter-spec : {M : Type 1} → statement M
 raise-quarter-spec =
     tie.close
-    (tie.spec
-    returns
-    span-requires
-    mul-rows
-    element-copy-out-rows
-    mul-rows-2
-    element-write-rows
-    returns-2
-    add-rows
-    mul-rows-3
-    element-copy-out-rows-2
-    add-rows-2
-    mul-rows-4
-    element-write-rows-2
-    returns-3
-    add-rows-3
-    mul-rows-5
-    element-copy-out-rows-3
-    add-rows-4
-    mul-rows-6
-    element-write-rows-3
-    returns-4)
+    (tie.spec returns (λ c κs. search needs) (λ c. search needs) (λ c. search needs) (λ c. search needs)
+    (λ c. search needs) returns-2 (λ c. search needs) (λ c. search needs) (λ c. search needs) (λ c. search needs)
+    (λ c. search needs) (λ c. search needs) returns-3 (λ c. search needs) (λ c. search needs) (λ c. search needs)
+    (λ c. search needs) (λ c. search needs) (λ c. search needs) returns-4)

@@ -13,31 +13,16 @@ Inv-loop rows₀ x y side level mask l₀ rows l = (l ≤ level) × Masked (inLe
 abbrev μ-loop : tie.MeasureT-loop
 μ-loop rows₀ x y side level mask l₀ rows l = level - l
 
-span-requires : tie.Need-span-requires Inv-loop μ-loop
-span-requires c κs = omega arith
-
 loop-holds : tie.Need-loop-holds Inv-loop μ-loop
 loop-holds c =
     let a = c .before .args in
     let none = no-levels (a .y) (a .side) in
     (omega arith, mask-none (inLevels (a .y) (a .side) 0) (c .span .result) (a .rows .now) none)
 
-mul-set-bits : tie.Need-mul-set-bits Inv-loop μ-loop
-mul-set-bits c = omega arith
-
-add-set-bits : tie.Need-add-set-bits Inv-loop μ-loop
-add-set-bits c = omega arith
-
 set-bits-requires : tie.Need-set-bits-requires Inv-loop μ-loop
 set-bits-requires c κs =
     let at-loop = c .before .before in
     (omega arith, at-loop .loop .inv .1 .size ∙ at-loop .before .before .pre .4)
-
-add-l : tie.Need-add-l Inv-loop μ-loop
-add-l c = omega arith
-
-loop-less : tie.Need-loop-less Inv-loop μ-loop
-loop-less c = omega arith
 
 loop-again : tie.Need-loop-again Inv-loop μ-loop
 loop-again c =
@@ -67,15 +52,5 @@ returns c =
 pub raise-square-spec : {M : Type 1} → statement M
 raise-square-spec =
     tie.close
-    (tie.spec
-    Inv-loop
-    μ-loop
-    span-requires
-    loop-holds
-    mul-set-bits
-    add-set-bits
-    set-bits-requires
-    add-l
-    loop-less
-    loop-again
-    returns)
+    (tie.spec Inv-loop μ-loop (λ c κs. omega arith) loop-holds (λ c. omega arith) (λ c. omega arith)
+    set-bits-requires (λ c. omega arith) (λ c. omega arith) loop-again returns)

@@ -4,12 +4,12 @@ use Prim.Native.Nat.{_-_, _*_, _≤_}
 use native.Mathlib.Omega.{arith}
 use borrow.Author.Needs.{needs}
 use Rattle.finite.specs.Range.{total}
-use Rattle.finite.proofs.Tests.{count-le}
-use Rattle.surface.specs.TableFile.{activeInRow}
+use Rattle.surface.specs.Support.{activeInRow}
 use Rattle.rows.specs.Rows.{levelsOf}
 use Rattle.activity.specs.Marks.{marked}
-use Rattle.activity.proofs.CountLaws.{total-none, total-more, row-count, count-whole}
-use Rattle.activity.proofs.WindowLaws.{row-size, eighths-le, eighths-some}
+use Rattle.finite.proofs.Tests.{total-none, total-more, count-le}
+use Rattle.activity.proofs.CountLaws.{row-count, count-whole}
+use Rattle.activity.proofs.WindowLaws.{eighths-le}
 use Rattle.activity.proofs.count.active_count.Statement.{statement}
 use Rattle.activity.proofs.count.active_count.Tie as tie
 
@@ -19,15 +19,6 @@ Inv-loop rows w h level e n m found₀ b₀ found b =
 
 abbrev μ-loop : tie.MeasureT-loop
 μ-loop rows w h level e n m found₀ b₀ found b = m - b
-
-eighths-requires : tie.Need-eighths-requires Inv-loop μ-loop
-eighths-requires c κs = search needs
-
-functions-requires : tie.Need-functions-requires Inv-loop μ-loop
-functions-requires c κs = search needs
-
-functions-requires-2 : tie.Need-functions-requires-2 Inv-loop μ-loop
-functions-requires-2 c κs = search needs
 
 loop-holds : tie.Need-loop-holds Inv-loop μ-loop
 loop-holds c = (omega arith, omega arith, total-none _)
@@ -40,15 +31,8 @@ active-row-requires c κs =
 
 count-row-requires : tie.Need-count-row-requires Inv-loop μ-loop
 count-row-requires c κs =
-    let columns = c .before .before .before .before in
-    let side = columns .before .eighths in
-    let s = columns .before .before in
-    let level = s .args .level in (
-      row-size (s .args .w) level (columns .functions .result) (side .result) (s .pre .0) (s .pre .2)
-          (columns .functions .ensures .0) (side .ensures),
-      omega (arith, side .ensures, eighths-some level),
-      omega (arith, side .ensures, eighths-le level),
-    )
+    let sized = c .before .before .before .before .before in
+    omega (arith, sized .eighths .ensures, eighths-le (sized .before .args .level))
 
 -- the count of a turn's row is small
 few : (c : tie.After-count-row Inv-loop μ-loop) → c .count-row .result ≤ 67
@@ -56,15 +40,6 @@ few c =
     let columns = c .before .before .before .before .before in
     let p = marked (columns .before .eighths .result) (c .before .active-row .result) in
     omega (arith, c .count-row .ensures, count-le (columns .functions .result) p, columns .functions .ensures .1)
-
-add-found : tie.Need-add-found Inv-loop μ-loop
-add-found c = omega (arith, few c, c .before .before .before .before .functions2 .ensures .1)
-
-add-b : tie.Need-add-b Inv-loop μ-loop
-add-b c = omega (arith, c .before .before .before .before .functions2 .ensures .1)
-
-loop-less : tie.Need-loop-less Inv-loop μ-loop
-loop-less c = omega arith
 
 loop-again : tie.Need-loop-again Inv-loop μ-loop
 loop-again c =
@@ -100,14 +75,14 @@ active-count-spec =
     (tie.spec
     Inv-loop
     μ-loop
-    eighths-requires
-    functions-requires
-    functions-requires-2
+    (λ c κs. search needs)
+    (λ c κs. search needs)
+    (λ c κs. search needs)
     loop-holds
     active-row-requires
     count-row-requires
-    add-found
-    add-b
-    loop-less
+    (λ c. omega (arith, few c, c .before .before .before .before .functions2 .ensures .1))
+    (λ c. omega (arith, c .before .before .before .before .functions2 .ensures .1))
+    (λ c. omega arith)
     loop-again
     returns)

@@ -8,8 +8,8 @@ use lib.ListN.{length, take, drop}
 use Rattle.finite.specs.Range.{tableFrom}
 use Rattle.activity.specs.Mark.{rowMarks, activeMark}
 use Rattle.activity.proofs.ActiveLaws.{row-marks}
-use Rattle.activity.proofs.WindowLaws.{row-size, eighths-le, eighths-some}
-use Rattle.activity.proofs.MarkLaws.{rowsWritten, rows-none, rows-next, rows-all}
+use Rattle.activity.proofs.WindowLaws.{eighths-le}
+use Rattle.finite.proofs.Written.{rowsWritten, rows-none, rows-next, rows-all}
 use Rattle.activity.proofs.mark.mark_level.Statement.{statement}
 use Rattle.activity.proofs.mark.mark_level.Tie as tie
 
@@ -19,9 +19,6 @@ Inv-loop rows w h level n m out₀ e b₀ out b =
 
 abbrev μ-loop : tie.MeasureT-loop
 μ-loop rows w h level n m out₀ e b₀ out b = m - b
-
-eighths-requires : tie.Need-eighths-requires Inv-loop μ-loop
-eighths-requires c κs = search needs
 
 loop-holds : tie.Need-loop-holds Inv-loop μ-loop
 loop-holds c =
@@ -47,41 +44,10 @@ row-fits c =
     let b = c .before .loop .b in
     omega (arith, mul-le-mul-right (args .n) (c .loop-test .taken), suc-mul b (args .n), mul-comm (args .n) (args .m))
 
-mul-from : tie.Need-mul-from Inv-loop μ-loop
-mul-from c = omega (arith, row-fits (c .before))
-
-add-to : tie.Need-add-to Inv-loop μ-loop
-add-to c = omega (arith, row-fits (c .before))
-
-sub-mark-row : tie.Need-sub-mark-row Inv-loop μ-loop
-sub-mark-row c = omega arith
-
-part-mark-row-start : tie.Need-part-mark-row-start Inv-loop μ-loop
-part-mark-row-start c = omega arith
-
-part-mark-row-end : tie.Need-part-mark-row-end Inv-loop μ-loop
-part-mark-row-end c = row-fits (c .before)
-
 mark-row-requires : tie.Need-mark-row-requires Inv-loop μ-loop
 mark-row-requires c κs =
-    let side = c .before .before .before .before .eighths in
-    let start = c .before .before .before .before .before .before in
-    let args = start .args in
-    let n = args .n in
-    let at = c .before .before .before .loop .b * n in
-    let size : length (take (at + n - at) (drop at (c .before .before .before .loop .out))) ≡ n =
-    c .mark-row-arg .given .2 ∙ count at n in (
-      rw size (row-size (args .w) (args .level) n (side .result) (start .pre .0) (start .pre .2) (start .pre .3)
-          (side .ensures)),
-      omega (arith, side .ensures, eighths-some (args .level)),
-      omega (arith, side .ensures, eighths-le (args .level)),
-    )
-
-add-b : tie.Need-add-b Inv-loop μ-loop
-add-b c = omega arith
-
-loop-less : tie.Need-loop-less Inv-loop μ-loop
-loop-less c = omega arith
+    let sized = c .before .before .before .before in
+    omega (arith, sized .eighths .ensures, eighths-le (sized .before .before .args .level))
 
 loop-again : tie.Need-loop-again Inv-loop μ-loop
 loop-again c =
@@ -110,9 +76,6 @@ loop-again c =
       rows-next n b (at + n - at) mark (args .out .now) out row (inv .2) (count at n) new,
     )
 
-same-length : tie.Need-same-length Inv-loop μ-loop
-same-length c = c .before .loop .inv .1 ∙ sym (c .before .before .before .before .pre .5)
-
 returns : tie.Need-returns Inv-loop μ-loop
 returns c =
     let loop = c .before .loop in
@@ -128,17 +91,17 @@ mark-level-spec =
     (tie.spec
     Inv-loop
     μ-loop
-    eighths-requires
+    (λ c κs. search needs)
     loop-holds
     active-row-requires
-    mul-from
-    add-to
-    sub-mark-row
-    part-mark-row-start
-    part-mark-row-end
+    (λ c. omega (arith, row-fits (c .before)))
+    (λ c. omega (arith, row-fits (c .before)))
+    (λ c. omega arith)
+    (λ c. omega arith)
+    (λ c. row-fits (c .before))
     mark-row-requires
-    add-b
-    loop-less
+    (λ c. omega arith)
+    (λ c. omega arith)
     loop-again
-    same-length
+    (λ c. c .before .loop .inv .1 ∙ sym (c .before .before .before .before .pre .5))
     returns)

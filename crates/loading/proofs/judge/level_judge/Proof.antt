@@ -1,148 +1,111 @@
--- Each way out of `level_judge` says what the file's contents are.
-use mathlib.Core.Path.{_≡_, sym, _∙_, subst}
-use mathlib.Core.List.{List}
-use Prim.Native.Nat.{ℕ, _+_, _*_, _≤_}
+-- Each way out of `level_judge` says what the field of the level holds.
+use mathlib.Core.Path.{_≡_, sym, ap, _∙_, subst}
+use mathlib.Core.Bool.{Bool, true, false, not}
+use Prim.Native.Nat.{_+_, _*_, _≤_}
 use native.Mathlib.Omega.{arith}
-use borrow.Author.Needs.{needs}
-use lib.ListN.{length}
-use Rattle.surface.specs.Table.{levels}
-use Rattle.surface.specs.TableFile.{activeCount}
-use Rattle.rows.specs.Rows.{levelRows}
-use Rattle.loading.specs.declared.field.Field as F
-use Rattle.loading.specs.Fields.{bodyAt, ends}
-use Rattle.loading.specs.Judged.{inFile, levelJudged}
-use Rattle.loading.proofs.LevelLaws.{count-tree}
-use Rattle.loading.proofs.FieldLaws.{body-length}
-use Rattle.loading.proofs.JudgeLaws.{level-faulty, level-good, level-bad}
+use borrow.Author.Needs.{needs, sfits-of}
+use lib.IntN.{pos, natAbs}
+use lib.ListN.{length, drop}
+use mir.Syntax.{w64}
+use mir.Val.{ofZ, toZ}
+use mir.ValLaws.{toZ-ofZ}
+use Rattle.surface.specs.Table.{cause, limit}
+use Rattle.surface.specs.Fields.{unless, holds, allWithin}
+use Rattle.surface.specs.TableFile.{levelLoaded, levelField}
+use Rattle.tablefile.proofs.SavedLevels.{limit-small}
+use Rattle.fields.specs.declared.Field as F
+use Rattle.fields.specs.Positions.{bodyAt, ends}
+use Rattle.fields.proofs.PositionLaws.{body-size}
+use Rattle.rows.specs.Rows.{levelsOf}
+use Rattle.loading.proofs.JudgeLaws.{level-faulty, level-told}
 use Rattle.loading.proofs.judge.level_judge.Statement.{statement}
 use Rattle.loading.proofs.judge.level_judge.Tie as tie
 
-active-count-requires : tie.Need-active-count-requires
-active-count-requires c κs = search needs
-
-mul-n : tie.Need-mul-n
-mul-n c = search needs
-
-cast-tag : tie.Need-cast-tag
-cast-tag c = search needs
-
-add-tag : tie.Need-add-tag
-add-tag c = search needs
-
-field-at-requires : tie.Need-field-at-requires
-field-at-requires c κs = search needs
-
-enum-known-f : tie.Need-enum-known-f
-enum-known-f c = search needs
-
 enum-told : tie.Need-enum-told
 enum-told c = search needs
-
--- the count is that of the tree
-counted : (c : tie.After-active-count)
-    → let a = c .before .before .args in
-    (t : List ℕ) → a .rows .now ≡ levelRows t → c .active-count .result ≡ activeCount (a .w) (a .h) (levels t)
-    (a .level)
-counted c t e =
-    let s = c .before .before in
-    let a = s .args in
-    c .active-count .ensures .0 ∙ count-tree t (a .rows .now) e (a .w) (a .h) (a .level) (s .pre .0) (s .pre .1)
 
 -- the field is whole, and its body has the length of so many numbers
 size : (c : tie.After-f)
     → let f = c .before .before in
     let a = f .before .before .before .args in
     (a .at + 3 ≤ c .f .given .0 .0)
-    × (a .at + 3 + 5 * f .before .active-count .result ≤ c .f .given .0 .0)
     × (c .f .given .0 .0 ≤ length (a .file .now))
+    × (5 * f .before .active-count .result ≤ length (bodyAt (a .file .now) (a .at) (c .f .given .0 .0)))
 size c =
     let f = c .before .before in
     let a = f .before .before .before .args in
     let n = 5 * f .before .active-count .result in
-    let b : ends (F.the-variants.Body (c .f .given .0 .0)) (a .file .now) (a .at) n n =
+    let end = c .f .given .0 .0 in
+    let b : ends (F.the-variants.Body end) (a .file .now) (a .at) n n =
     subst (λ r. ends r (a .file .now) (a .at) n n) (c .f .given .1) (f .field-at .ensures .1) in
-    (omega (arith, b .0), b .0, b .2)
-
-part-size : (c : tie.After-f)
-    → let f = c .before .before in
-    let a = f .before .before .before .args in
-    5 * f .before .active-count .result ≤ length (bodyAt (a .file .now) (a .at) (c .f .given .0 .0))
-part-size c =
-    let f = c .before .before in
-    let a = f .before .before .before .args in
-    let b = size c in
-    omega (arith, body-length (a .file .now) (a .at) (c .f .given .0 .0) (b .2), b .1)
+    (omega (arith, b .0), b .2, omega (arith, b .0, body-size (a .file .now) (a .at) end (b .2)))
 
 returns : tie.Need-returns
 returns c =
     let f = c .before .before in
-    let a = f .before .before .before .args in (
-      subst (λ r. inFile r (a .file .now)) (sym (c .enum-told .given .1)) tt,
-      λ t e. subst (λ r. levelJudged r (a .file .now) (a .at) (a .w) (a .h) (a .level) t)
-          (sym (c .enum-told .given .1))
-          (λ n before. level-faulty (a .file .now) (a .at) (a .w) (a .h) (a .level) t (f .field-at .result)
-          (f .before .active-count .result) (f .field-at .ensures .0) (counted (f .before) t e) n before
-          (c .enum-told .given .0 .0) (c .enum-told .given .1)),
-    )
+    let a = f .before .before .before .args in
+    level-faulty (a .w) (a .h) (levelsOf (a .rows .now)) (a .level) (a .file .now) (a .at) (f .field-at .result)
+    (f .before .active-count .result) (f .before .active-count .ensures .0) (f .field-at .ensures .0)
+    (c .enum-told .given .0 .0) (c .enum-told .given .1)
 
-add-body : tie.Need-add-body
-add-body c = search needs
+-- the limit as the machine has it
+bound : (c : tie.After-limit)
+    → let a = c .before .before .before .before .before .before .before .args in
+    toZ w64 (ofZ w64 (c .limit .result)) ≡ pos (limit (a .level))
+bound c = toZ-ofZ w64 (c .limit .result) (sfits-of (c .limit .ok)) ∙ c .limit .ensures
+
+cast-most : tie.Need-cast-most
+cast-most c =
+    let s = c .before .before .before .before .before .before .before in
+    rw (bound c) (tt, omega (arith, limit-small (s .args .level) (omega (arith, s .pre .2))))
 
 sub-within : tie.Need-sub-within
-sub-within c = size (c .before) .0
+sub-within c = size (c .before .before) .0
 
 part-within-start : tie.Need-part-within-start
-part-within-start c = size (c .before) .0
+part-within-start c = size (c .before .before) .0
 
 part-within-end : tie.Need-part-within-end
-part-within-end c = size (c .before) .2
+part-within-end c = size (c .before .before) .1
 
 within-requires : tie.Need-within-requires
 within-requires c κs =
-    let k = c .before .before in
+    let l = c .before in
+    let k = l .before .before in
     let s = k .before .before .before .before .before in
-    (omega (arith, part-size k), s .pre .2)
+    (omega (arith, size k .2), rw (bound l) (limit-small (s .args .level) (omega (arith, s .pre .2))))
+
+-- the field by the test of its numbers
+told : (c : tie.After-within) (t : Bool) → c .within .result ≡ t
+    → let k = c .before .before .before .before in
+    let a = k .before .before .before .before .before .args in
+    let end = k .f .given .0 .0 in
+    let lev = levelsOf (a .rows .now) in
+    levelField (a .w) (a .h) lev (a .level) (drop (a .at) (a .file .now))
+    ≡ unless (cause 4 (not t))
+    (holds (levelLoaded (a .w) (a .h) lev (a .level) (bodyAt (a .file .now) (a .at) end)) (drop end (a .file .now)))
+told c t q =
+    let l = c .before .before in
+    let k = l .before .before in
+    let f = k .before .before in
+    let a = f .before .before .before .args in
+    let count = f .before .active-count in
+    level-told (a .w) (a .h) (levelsOf (a .rows .now)) (a .level) (a .file .now) (a .at) (f .field-at .result)
+    (count .result) (count .ensures .0) (f .field-at .ensures .0) (k .f .given .0 .0) (k .f .given .1) t
+    (sym q
+    ∙ c .within .ensures
+    ∙ ap (λ z. allWithin (natAbs z) (count .result) (bodyAt (a .file .now) (a .at) (k .f .given .0 .0))) (bound l))
 
 returns-2 : tie.Need-returns-2
 returns-2 c =
-    let k = c .before .before .before .before in
-    let f = k .before .before in
-    let a = f .before .before .before .args in (
-      size k .2,
-      λ t e n before. level-good (a .file .now) (a .at) (a .w) (a .h) (a .level) t (f .field-at .result)
-          (f .before .active-count .result) (f .field-at .ensures .0) (counted (f .before) t e) n before
-          (k .f .given .0 .0)
-          (k .f .given .1) (sym (c .if1 .taken) ∙ c .before .within .ensures),
-    )
+    let k = c .before .before .before .before .before in (size k .1, (_, told (c .before) true (c .if1 .taken)))
 
 returns-3 : tie.Need-returns-3
-returns-3 c =
-    let k = c .before .before .before .before in
-    let f = k .before .before in
-    let a = f .before .before .before .args in (
-      tt,
-      λ t e n before. level-bad (a .file .now) (a .at) (a .w) (a .h) (a .level) t (f .field-at .result)
-          (f .before .active-count .result)
-          (f .field-at .ensures .0) (counted (f .before) t e) n before (k .f .given .0 .0) (k .f .given .1)
-          (sym (c .if1 .left) ∙ c .before .within .ensures),
-    )
+returns-3 c = told (c .before) false (c .if1 .left)
 
 pub level-judge-spec : {M : Type 1} → statement M
 level-judge-spec =
     tie.close
-    (tie.spec
-    active-count-requires
-    mul-n
-    cast-tag
-    add-tag
-    field-at-requires
-    enum-known-f
-    enum-told
-    returns
-    add-body
-    sub-within
-    part-within-start
-    part-within-end
-    within-requires
-    returns-2
-    returns-3)
+    (tie.spec (λ c κs. search needs) (λ c. search needs) (λ c. search needs) (λ c. search needs)
+    (λ c κs. search needs) (λ c. search needs) enum-told returns (λ c. search needs) (λ c κs. search needs)
+    cast-most sub-within part-within-start part-within-end within-requires returns-2 returns-3)

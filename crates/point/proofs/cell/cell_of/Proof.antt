@@ -10,14 +10,8 @@ use Rattle.point.proofs.PointLaws.{cell-found}
 use Rattle.point.proofs.cell.cell_of.Statement.{statement}
 use Rattle.point.proofs.cell.cell_of.Tie as tie
 
-eighths-requires : tie.Need-eighths-requires
-eighths-requires c κs = search needs
-
 mul-steps : tie.Need-mul-steps
 mul-steps c = omega (arith, eighths-le (c .before .args .level), c .eighths .ensures)
-
-functions-requires : tie.Need-functions-requires
-functions-requires c κs = search needs
 
 sub-last : tie.Need-sub-last
 sub-last c =
@@ -47,4 +41,4 @@ returns-2 c =
 pub cell-of-spec : {M : Type 1} → statement M
 cell-of-spec =
     tie.close
-    (tie.spec eighths-requires mul-steps functions-requires sub-last div-c returns returns-2)
+    (tie.spec (λ c κs. search needs) mul-steps (λ c κs. search needs) sub-last div-c returns returns-2)

@@ -10,33 +10,6 @@ use Rattle.point.proofs.PointLaws.{at-four, column-place}
 use Rattle.point.proofs.own.in_part.Statement.{statement}
 use Rattle.point.proofs.own.in_part.Tie as tie
 
-mul-at : tie.Need-mul-at
-mul-at c = search needs
-
-add-at : tie.Need-add-at
-add-at c = search needs
-
-column-requires : tie.Need-column-requires
-column-requires c κs = search needs
-
-add-column : tie.Need-add-column
-add-column c = search needs
-
-column-requires-2 : tie.Need-column-requires-2
-column-requires-2 c κs = search needs
-
-add-column-2 : tie.Need-add-column-2
-add-column-2 c = search needs
-
-column-requires-3 : tie.Need-column-requires-3
-column-requires-3 c κs = search needs
-
-add-column-3 : tie.Need-add-column-3
-add-column-3 c = search needs
-
-column-requires-4 : tie.Need-column-requires-4
-column-requires-4 c κs = search needs
-
 returns : tie.Need-returns
 returns c = λ k l hk hl.
     let s = c .before .before .before .before in
@@ -55,14 +28,6 @@ returns c = λ k l hk hl.
 pub in-part-spec : {M : Type 1} → statement M
 in-part-spec =
     tie.close
-    (tie.spec
-    mul-at
-    add-at
-    column-requires
-    add-column
-    column-requires-2
-    add-column-2
-    column-requires-3
-    add-column-3
-    column-requires-4
+    (tie.spec (λ c. search needs) (λ c. search needs) (λ c κs. search needs) (λ c. search needs)
+    (λ c κs. search needs) (λ c. search needs) (λ c κs. search needs) (λ c. search needs) (λ c κs. search needs)
     returns)

@@ -10,27 +10,6 @@ use Rattle.point.proofs.PointLaws.{rows-fit, level-own}
 use Rattle.point.proofs.own.own.Statement.{statement}
 use Rattle.point.proofs.own.own.Tie as tie
 
-functions-requires : tie.Need-functions-requires
-functions-requires c κs = search needs
-
-start-requires : tie.Need-start-requires
-start-requires c κs = search needs
-
-places-requires : tie.Need-places-requires
-places-requires c κs = search needs
-
-add-end : tie.Need-add-end
-add-end c = search needs
-
-mul-in-part : tie.Need-mul-in-part
-mul-in-part c = search needs
-
-sub-in-part : tie.Need-sub-in-part
-sub-in-part c = search needs
-
-part-in-part-start : tie.Need-part-in-part-start
-part-in-part-start c = search needs
-
 -- the level's part is inside the slice
 inside : (c : tie.After-places)
     → c .before .start .result + c .places .result ≤ length (c .before .before .before .args .cs .now)
@@ -70,14 +49,5 @@ returns c = λ k l hk hl.
 pub own-spec : {M : Type 1} → statement M
 own-spec =
     tie.close
-    (tie.spec
-    functions-requires
-    start-requires
-    places-requires
-    add-end
-    mul-in-part
-    sub-in-part
-    part-in-part-start
-    part-in-part-end
-    in-part-requires
-    returns)
+    (tie.spec (λ c κs. search needs) (λ c κs. search needs) (λ c κs. search needs) (λ c. search needs)
+    (λ c. search needs) (λ c. search needs) (λ c. search needs) part-in-part-end in-part-requires returns)

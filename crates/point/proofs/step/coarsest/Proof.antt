@@ -7,15 +7,6 @@ use Rattle.surface.specs.Table.{coefficients}
 use Rattle.point.proofs.step.coarsest.Statement.{statement}
 use Rattle.point.proofs.step.coarsest.Tie as tie
 
-cell-of-requires : tie.Need-cell-of-requires
-cell-of-requires c κs = search needs
-
-cell-of-requires-2 : tie.Need-cell-of-requires-2
-cell-of-requires-2 c κs = search needs
-
-own-requires : tie.Need-own-requires
-own-requires c κs = search needs
-
 returns : tie.Need-returns
 unfolding patch
 returns c = λ rows k l hk hl.
@@ -26,4 +17,4 @@ returns c = λ rows k l hk hl.
     (d .cell-of2 .ensures .0)
 
 pub coarsest-spec : {M : Type 1} → statement M
-coarsest-spec = tie.close (tie.spec cell-of-requires cell-of-requires-2 own-requires returns)
+coarsest-spec = tie.close (tie.spec (λ c κs. search needs) (λ c κs. search needs) (λ c κs. search needs) returns)

@@ -10,24 +10,6 @@ use Rattle.point.proofs.PatchLaws.{next-entry}
 use Rattle.point.proofs.step.finer.Statement.{statement}
 use Rattle.point.proofs.step.finer.Tie as tie
 
-cell-of-requires : tie.Need-cell-of-requires
-cell-of-requires c κs = search needs
-
-cell-of-requires-2 : tie.Need-cell-of-requires-2
-cell-of-requires-2 c κs = search needs
-
-own-requires : tie.Need-own-requires
-own-requires c κs = search needs
-
-near-region-requires : tie.Need-near-region-requires
-near-region-requires c κs = search needs
-
-subdivide-requires : tie.Need-subdivide-requires
-subdivide-requires c κs = search needs
-
-choose-all-requires : tie.Need-choose-all-requires
-choose-all-requires c κs = search needs
-
 returns : tie.Need-returns
 returns c = λ k l hk hl.
     let d = c .before in
@@ -46,11 +28,5 @@ returns c = λ k l hk hl.
 pub finer-spec : {M : Type 1} → statement M
 finer-spec =
     tie.close
-    (tie.spec
-    cell-of-requires
-    cell-of-requires-2
-    own-requires
-    near-region-requires
-    subdivide-requires
-    choose-all-requires
-    returns)
+    (tie.spec (λ c κs. search needs) (λ c κs. search needs) (λ c κs. search needs) (λ c κs. search needs)
+    (λ c κs. search needs) (λ c κs. search needs) returns)

@@ -1,27 +1,21 @@
--- `walk` meets its contract. The measure is the side, which halves. What is known of the children that were read is
--- gathered in a record after each call, and each way out is a law of `EndLaws`, `SplitEnd` or `WalkLaws`.
+-- `walk` meets its contract. The measure is the side, which halves.
 use borrow.Author.Needs.{needs}
-use borrow.Author.Tests.{not-true, not-false}
-use mathlib.Core.List.{List}
-use mathlib.Core.Path.{sym, _∙_}
+use mathlib.Core.Bool.{Bool, true, false, cond}
+use mathlib.Core.Path.{_≡_, sym, _∙_}
 use Prim.Native.Nat.{ℕ, _+_, _/_, _≤_, _<_}
 use native.Mathlib.Omega.{arith}
 use lib.ListN.{length}
 use borrow.Fn.Kinds.{In}
 use borrow.Fn.PlainCycle.{Measures, is, falls, and}
-use Rattle.quadtree.specs.End.{Square}
-use Rattle.quadtree.specs.Judged.{PaintedTree}
-use Rattle.quadtree.proofs.EndLaws.{past-end, leaf-end, leaf-bad, wrong-byte}
-use Rattle.quadtree.proofs.SplitEnd.{AtSplit, First, Second, Third, Fourth, first-bad, second-bad, third-bad}
-use Rattle.quadtree.proofs.SplitEnd.{fourth-bad, fourth-inside, same-bad, split-end, child-asks}
-use Rattle.quadtree.proofs.SplitEnd.{fits-near, below-end}
-use Rattle.quadtree.proofs.WalkLaws.{small, leaf-painted, split-painted, judged-bad, judged-at, judged-side}
+use Rattle.quadtree.specs.End.{nowhere, equalBytes}
+use Rattle.quadtree.specs.Subtree.{Square}
+use Rattle.quadtree.specs.Judged.{Judged}
+use Rattle.quadtree.proofs.WalkLaws.{judged-past, judged-split, short, child-asks}
 use Rattle.quadtree.proofs.walk.walk.Reads as reads
 use Rattle.quadtree.proofs.walk.walk.Kinds as kinds
-use Rattle.quadtree.proofs.walk.leaf_formed.Reads as leaf-formed
-use Rattle.quadtree.proofs.walk.four_equal.Reads as four-equal
+use Rattle.quadtree.proofs.walk.equal_leaves.Reads as equal-leaves
+use Rattle.quadtree.proofs.walk.leaf.Reads as leaf
 use Rattle.quadtree.proofs.walk.quarters.Reads as quarters
-use Rattle.rows.proofs.raise_square.Reads as raise-square
 use Rattle.quadtree.proofs.walk.+walk.Lts-walk as lts
 use Rattle.quadtree.proofs.walk.+walk.{statement}
 use Rattle.quadtree.proofs.walk.+walk.Tie.{close}
@@ -29,371 +23,149 @@ use Rattle.quadtree.proofs.walk.+walk.Tie.{close}
 abbrev side-of : Measures 2 kinds.ps ℕ
 side-of κs a = a .1 .1 .1 .1 .0
 
--- what `walk` is given at the measure t, and what a call of it asks below t
+-- what `walk` is given at the measure m, and what a call of it asks below m
 abbrev here : ℕ → In 2 kinds.ps
-here t = and 2 kinds.ps (is 2 kinds.ps side-of t) reads.Pre
+here m = and 2 kinds.ps (is 2 kinds.ps side-of m) reads.Pre
 
 abbrev below : ℕ → In 2 kinds.ps
-below t = and 2 kinds.ps (falls 2 kinds.ps _<_ side-of t) reads.Pre
+below m = and 2 kinds.ps (falls 2 kinds.ps _<_ side-of m) reads.Pre
 
 -- what the calls ask, and what is learnt of them
 abbrev claims : ℕ → lts.Claims
-claims t = (
-  leaf-formed.Asked,
-  leaf-formed.Learnt,
-  raise-square.Asked,
-  raise-square.Learnt,
+claims m = (
+  leaf.Asked,
+  leaf.Learnt,
   quarters.Asked,
   quarters.Learnt,
-  below t,
+  below m,
   reads.Post,
-  four-equal.Asked,
-  four-equal.Learnt,
+  equal-leaves.Asked,
+  equal-leaves.Learnt,
 )
 
-module _ (t : ℕ) where
-  -- the function's start, the place before the first call, and those after each call's end was found
+module _ (m : ℕ) where
   abbrev Start : Type 0
-  Start = lts.Start (claims t) (here t) reads.Post
+  Start = lts.Start (claims m) (here m) reads.Post
 
+  -- where the four calls begin, and where they have ended
   abbrev Calls : Type 0
-  Calls = lts.Else5 (claims t) (here t) reads.Post
+  Calls = lts.Else3 (claims m) (here m) reads.Post
 
-  abbrev End1 : Type 0
-  End1 = lts.After-known-told (claims t) (here t) reads.Post
-
-  abbrev End2 : Type 0
-  End2 = lts.After-known-told2 (claims t) (here t) reads.Post
-
-  abbrev End3 : Type 0
-  End3 = lts.After-known-told3 (claims t) (here t) reads.Post
-
-  abbrev End4 : Type 0
-  End4 = lts.After-known-told4 (claims t) (here t) reads.Post
+  abbrev Called : Type 0
+  Called = lts.After-walk4 (claims m) (here m) reads.Post
 
   abbrev start : Calls → Start
-  start c = c .before .before .before .before .before .before
+  start c = c .before .before .before .before .before
 
-  abbrev calls : End1 → Calls
-  calls c = c .before .before .before .before .before
+  abbrev calls : Called → Calls
+  calls c = c .before .before .before .before .before .before .before .before
 
-  abbrev end1 : End2 → End1
-  end1 c = c .before .before .before .before .before
+  inside : (c : Calls) → start c .args .at < length (start c .args .t .now)
+  inside c = c .before .before .before .if1 .left
 
-  abbrev end2 : End3 → End2
-  end2 c = c .before .before .before .before .before
-
-  abbrev end3 : End4 → End3
-  end3 c = c .before .before .before .before .before
-
-  abbrev calls4 : End4 → Calls
-  calls4 c = calls (end1 (end2 (end3 c)))
-
-  abbrev p1 : End1 → ℕ
-  p1 c = c .before .p1 .given .0 .0
-
-  abbrev p2 : End2 → ℕ
-  p2 c = c .before .p2 .given .0 .0
-
-  abbrev p3 : End3 → ℕ
-  p3 c = c .before .p3 .given .0 .0
-
-  abbrev p4 : End4 → ℕ
-  p4 c = c .before .p4 .given .0 .0
-
-  -- the rows after the first and the second call
-  abbrev after1 : End1 → List ℕ
-  after1 c = c .before .before .before .walk .last .1 .1 .1 .1 .1 .1 .1 .0
-
-  abbrev after2 : End2 → List ℕ
-  after2 c = c .before .before .before .walk2 .last .1 .1 .1 .1 .1 .1 .1 .0
-
-  returns : lts.Need-returns (claims t) (here t) reads.Post
-  returns c = judged-bad (past-end _ _ _ _ _ _ _ (c .if1 .taken))
-
-  shared-slice-read-b : lts.Need-shared-slice-read-b (claims t) (here t) reads.Post
-  shared-slice-read-b c = c .before .if1 .left
-
-  leaf-formed-requires : lts.Need-leaf-formed-requires (claims t) (here t) reads.Post
-  leaf-formed-requires c κs =
-      let p = c .before .before .before .before .pre .1 in
-      (p .0 .inU, p .0 .inV, p .2, p .3)
-
-  returns-2 : lts.Need-returns-2 (claims t) (here t) reads.Post
-  returns-2 c =
-      let leaf = c .before .before in
-      judged-bad (leaf-bad _ _ _ _ _ _ _ (leaf .before .before .if1 .left) (leaf .if2 .taken)
-      (λ k e. sym (not-true _ (c .if3 .taken)) ∙ c .before .leaf-formed .ensures k e))
-
-  cast-raise-square : lts.Need-cast-raise-square (claims t) (here t) reads.Post
-  cast-raise-square c = record { fits = small (c .before .before .before .if2 .taken) }
-
-  raise-square-requires : lts.Need-raise-square-requires (claims t) (here t) reads.Post
-  raise-square-requires c κs =
-      let leaf = c .before .before .before in
-      let p = leaf .before .before .before .before .pre .1 in
-      (omega (arith, p .1), p .0 .inU, p .0 .inV, leaf .if2 .taken, p .4)
-
-  add-t23 : lts.Need-add-t23 (claims t) (here t) reads.Post
-  add-t23 c =
-      let first = c .before .before .before .before .before .before in
-      record { fits = fits-near _ _ 1 (first .before .before .good .0 .1) (first .if1 .left) (omega arith) }
-
-  returns-3 : lts.Need-returns-3 (claims t) (here t) reads.Post
-  returns-3 c =
-      let formed = c .before .before in
-      let leaf = formed .before .before in
-      judged-at
-      (leaf-end _ _ _ _ _ _ _ (leaf .before .before .if1 .left) (leaf .if2 .taken)
-      (λ k e. sym (not-false _ (formed .if3 .left)) ∙ formed .before .leaf-formed .ensures k e))
-      (leaf-painted _ _ _ _ _ (leaf .if2 .taken) (c .raise-square .ensures))
-
-  returns-4 : lts.Need-returns-4 (claims t) (here t) reads.Post
-  returns-4 c =
-      judged-bad (wrong-byte _ _ _ _ _ _ _ (c .before .before .before .if1 .left) (c .before .if2 .left)
-      (λ four more. c .if4 .taken four))
-
-  quarters-requires : lts.Need-quarters-requires (claims t) (here t) reads.Post
-  quarters-requires c κs =
-      let two = c .before in
-      let first = two .before .before .before .before in
-      let p = first .before .before .pre .1 in
-      let e = two .if5 .taken in
-      let four = two .before .if4 .left in
-      (omega (arith, e, p .0 .inU), omega (arith, e, p .0 .inV), p .2, p .3, first .if1 .left, four, p .4)
-
-  returns-5 : lts.Need-returns-5 (claims t) (here t) reads.Post
-  returns-5 c = judged-side (c .before .before .if5 .taken) (c .quarters .ensures)
-
-  -- what is known of the children so far
-  split-known : (c : Calls) → AtSplit (start c .args .side) (start c .args .t .now) (start c .args .at)
-  split-known c =
-      record {
-        inside = c .before .before .before .before .if1 .left;
-        four = c .before .if4 .left;
-        more = start c .pre .1 .1;
-      }
+  split : (c : Called) (b : Bool)
+      → let a = start (calls c) .args in
+      let p = c .walk4 .result in
+      equalBytes (a .t .now) (a .at + 1) p ≡ b
+      → Judged (a .w) (a .h) (a .x) (a .y) (a .side) (a .t .now) (a .at) (cond b nowhere p) (a .rows .now)
+      (c .walk4 .last .1 .1 .1 .1 .1 .1 .1 .0)
+  split c =
+      let d = calls c in
+      let s = start d in
+      let three = c .before .before in
+      let two = three .before .before in
+      let one = two .before .before in
+      judged-split (short _ (s .good .0 .1)) (inside d) (d .before .if2 .left) (s .pre .1 .1)
+      (one .walk .ensures) (two .walk2 .ensures) (three .walk3 .ensures) (c .walk4 .ensures)
 
   -- what a call at a child's square asks
   asks : (c : Calls) (u v : ℕ) {Sized : Type 0} → Sized → u + start c .args .side / 2 ≤ 32
       → v + start c .args .side / 2 ≤ 32
       → let a = start c .args in
-      (a .side / 2 < t) × (Square u v (a .side / 2) × (1 < a .side / 2) × (a .w ≤ 8) × (a .h ≤ 8) × Sized)
+      (a .side / 2 < m) × (Square u v (a .side / 2) × (1 < a .side / 2) × (a .w ≤ 8) × (a .h ≤ 8) × Sized)
   asks c u v size inU inV =
       let p = start c .pre in
-      let k = child-asks _ _ _ _ u v (p .0) (p .1 .0) (p .1 .1) (c .if5 .left) inU inV in
+      let k = child-asks _ _ _ _ u v (p .0) (p .1 .0) (p .1 .1) (c .if3 .left) inU inV in
       (k .0, (k .1, k .2, p .1 .2, p .1 .3, size))
 
-  add-walk : lts.Need-add-walk (claims t) (here t) reads.Post
-  add-walk c = record { fits = fits-near _ _ 1 (start c .good .0 .1) (split-known c .inside) (omega arith) }
+  returns : lts.Need-returns (claims m) (here m) reads.Post
+  returns c =
+      let s = c .before .before in
+      judged-past (short _ (s .good .0 .1)) (s .pre .1 .4) (c .if1 .taken)
 
-  walk-requires : lts.Need-walk-requires (claims t) (here t) reads.Post
+  shared-slice-read-if2 : lts.Need-shared-slice-read-if2 (claims m) (here m) reads.Post
+  shared-slice-read-if2 c = c .before .if1 .left
+
+  leaf-requires : lts.Need-leaf-requires (claims m) (here m) reads.Post
+  leaf-requires c κs =
+      let p = c .before .before .before .before .before .pre .1 in
+      (p .0, p .2, p .3, p .4, λ four. absurd (c .before .if2 .taken four))
+
+  returns-2 : lts.Need-returns-2 (claims m) (here m) reads.Post
+  returns-2 c = c .leaf .ensures
+
+  quarters-requires : lts.Need-quarters-requires (claims m) (here m) reads.Post
+  quarters-requires c κs =
+      let two = c .before in
+      let first = two .before .before .before in
+      let p = first .before .before .pre .1 in
+      let e = two .if3 .taken in (
+        omega (arith, e, p .0 .inU),
+        omega (arith, e, p .0 .inV),
+        p .2,
+        p .3,
+        p .4,
+        first .if1 .left,
+        two .before .if2 .left,
+      )
+
+  returns-3 : lts.Need-returns-3 (claims m) (here m) reads.Post
+  returns-3 c = rw (c .before .before .if3 .taken) (c .quarters .ensures)
+
+  add-walk : lts.Need-add-walk (claims m) (here m) reads.Post
+  add-walk c = omega (arith, inside c, start c .good .0 .1)
+
+  walk-requires : lts.Need-walk-requires (claims m) (here m) reads.Post
   walk-requires c κs =
-      let p = start (c .before) .pre in
-      asks (c .before) _ _ (p .1 .4) (omega (arith, p)) (omega (arith, p))
+      let d = c .before in
+      asks d _ _ (start d .pre .1 .4) (omega (arith, start d .pre)) (omega (arith, start d .pre))
 
-  enum-known-p1 : lts.Need-enum-known-p1 (claims t) (here t) reads.Post
-  enum-known-p1 c = search needs
-
-  enum-told : lts.Need-enum-told (claims t) (here t) reads.Post
-  enum-told c = search needs
-
-  returns-6 : lts.Need-returns-6 (claims t) (here t) reads.Post
-  returns-6 c =
-      judged-bad (first-bad _ _ _ _ _ _ _ (split-known (c .before .before .before .before))
-      (λ j e. sym (c .enum-told .given .1) ∙ c .before .before .walk .ensures .ends j e))
-
-  first-read : (c : End1)
-      → let a = start (calls c) .args in
-      First (a .w) (a .h) (a .x) (a .y) (a .side) (a .t .now) (a .at) (p1 c)
-  first-read c =
-      record {
-        known = split-known (calls c);
-        end = λ j e. sym (c .before .p1 .given .1) ∙ c .before .before .before .walk .ensures .ends j e;
-      }
-
-  painted1 : (c : End1)
-      → let a = start (calls c) .args in
-      PaintedTree (a .x) (a .y) (a .side / 2) (a .t .now) (a .at + 1) (a .rows .now) (after1 c)
-  painted1 c = c .before .before .before .walk .ensures .painted (p1 c) (c .before .p1 .given .1)
-
-  add-walk-2 : lts.Need-add-walk-2 (claims t) (here t) reads.Post
-  add-walk-2 c = search needs
-
-  walk-requires-2 : lts.Need-walk-requires-2 (claims t) (here t) reads.Post
+  walk-requires-2 : lts.Need-walk-requires-2 (claims m) (here m) reads.Post
   walk-requires-2 c κs =
-      let d = calls (c .before) in
-      asks d _ _ (painted1 (c .before) .size) (omega (arith, start d .pre)) (omega (arith, start d .pre))
+      let one = c .before in
+      let d = one .before .before in
+      asks d _ _ (one .walk .ensures .size) (omega (arith, start d .pre)) (omega (arith, start d .pre))
 
-  enum-known-p2 : lts.Need-enum-known-p2 (claims t) (here t) reads.Post
-  enum-known-p2 c = search needs
-
-  enum-told-2 : lts.Need-enum-told-2 (claims t) (here t) reads.Post
-  enum-told-2 c = search needs
-
-  returns-7 : lts.Need-returns-7 (claims t) (here t) reads.Post
-  returns-7 c =
-      judged-bad (second-bad _ _ _ _ _ _ _ _ (first-read (c .before .before .before .before))
-      (λ j e. sym (c .enum-told2 .given .1) ∙ c .before .before .walk2 .ensures .ends j e))
-
-  second-read : (c : End2)
-      → let a = start (calls (end1 c)) .args in
-      Second (a .w) (a .h) (a .x) (a .y) (a .side) (a .t .now) (a .at) (p1 (end1 c)) (p2 c)
-  second-read c =
-      record {
-        before = first-read (end1 c);
-        end = λ j e. sym (c .before .p2 .given .1) ∙ c .before .before .before .walk2 .ensures .ends j e;
-      }
-
-  painted2 : (c : End2)
-      → let a = start (calls (end1 c)) .args in
-      PaintedTree (a .x + a .side / 2) (a .y) (a .side / 2) (a .t .now) (p1 (end1 c)) (after1 (end1 c)) (after2 c)
-  painted2 c = c .before .before .before .walk2 .ensures .painted (p2 c) (c .before .p2 .given .1)
-
-  add-walk-3 : lts.Need-add-walk-3 (claims t) (here t) reads.Post
-  add-walk-3 c = search needs
-
-  walk-requires-3 : lts.Need-walk-requires-3 (claims t) (here t) reads.Post
+  walk-requires-3 : lts.Need-walk-requires-3 (claims m) (here m) reads.Post
   walk-requires-3 c κs =
-      let d = calls (end1 (c .before)) in
-      asks d _ _ (painted2 (c .before) .size) (omega (arith, start d .pre)) (omega (arith, start d .pre))
+      let two = c .before in
+      let d = two .before .before .before .before in
+      asks d _ _ (two .walk2 .ensures .size) (omega (arith, start d .pre)) (omega (arith, start d .pre))
 
-  enum-known-p3 : lts.Need-enum-known-p3 (claims t) (here t) reads.Post
-  enum-known-p3 c = search needs
-
-  enum-told-3 : lts.Need-enum-told-3 (claims t) (here t) reads.Post
-  enum-told-3 c = search needs
-
-  returns-8 : lts.Need-returns-8 (claims t) (here t) reads.Post
-  returns-8 c =
-      judged-bad (third-bad _ _ _ _ _ _ _ _ _ (second-read (c .before .before .before .before))
-      (λ j e. sym (c .enum-told3 .given .1) ∙ c .before .before .walk3 .ensures .ends j e))
-
-  third-read : (c : End3)
-      → let a = start (calls (end1 (end2 c))) .args in
-      Third (a .w) (a .h) (a .x) (a .y) (a .side) (a .t .now) (a .at) (p1 (end1 (end2 c))) (p2 (end2 c)) (p3 c)
-  third-read c =
-      record {
-        before = second-read (end2 c);
-        end = λ j e. sym (c .before .p3 .given .1) ∙ c .before .before .before .walk3 .ensures .ends j e;
-      }
-
-  painted3 : (c : End3)
-      → let a = start (calls (end1 (end2 c))) .args in
-      let after = c .before .before .before .walk3 .last .1 .1 .1 .1 .1 .1 .1 .0 in
-      PaintedTree (a .x) (a .y + a .side / 2) (a .side / 2) (a .t .now) (p2 (end2 c)) (after2 (end2 c)) after
-  painted3 c = c .before .before .before .walk3 .ensures .painted (p3 c) (c .before .p3 .given .1)
-
-  add-walk-4 : lts.Need-add-walk-4 (claims t) (here t) reads.Post
-  add-walk-4 c = omega (arith, start (calls (end1 (end2 c))) .pre .1 .0)
-
-  add-walk-5 : lts.Need-add-walk-5 (claims t) (here t) reads.Post
-  add-walk-5 c = omega (arith, start (calls (end1 (end2 c))) .pre .1 .0)
-
-  walk-requires-4 : lts.Need-walk-requires-4 (claims t) (here t) reads.Post
+  walk-requires-4 : lts.Need-walk-requires-4 (claims m) (here m) reads.Post
   walk-requires-4 c κs =
-      let d = calls (end1 (end2 (c .before))) in
-      asks d _ _ (painted3 (c .before) .size) (omega (arith, start d .pre)) (omega (arith, start d .pre))
+      let three = c .before in
+      let d = three .before .before .before .before .before .before in
+      asks d _ _ (three .walk3 .ensures .size) (omega (arith, start d .pre)) (omega (arith, start d .pre))
 
-  enum-known-p4 : lts.Need-enum-known-p4 (claims t) (here t) reads.Post
-  enum-known-p4 c = search needs
+  add-equal-leaves : lts.Need-add-equal-leaves (claims m) (here m) reads.Post
+  add-equal-leaves c = let d = calls c in omega (arith, inside d, start d .good .0 .1)
 
-  enum-told-4 : lts.Need-enum-told-4 (claims t) (here t) reads.Post
-  enum-told-4 c = search needs
+  equal-leaves-requires : lts.Need-equal-leaves-requires (claims m) (here m) reads.Post
+  equal-leaves-requires c κs =
+      let d = calls c in
+      (omega (arith, inside d), λ five. c .walk4 .ensures .inside (omega (arith, inside d, start d .good .0 .1)))
 
-  returns-9 : lts.Need-returns-9 (claims t) (here t) reads.Post
-  returns-9 c =
-      judged-bad (fourth-bad _ _ _ _ _ _ _ _ _ _ (third-read (c .before .before .before .before))
-      (λ j e. sym (c .enum-told4 .given .1) ∙ c .before .before .walk4 .ensures .ends j e))
+  returns-4 : lts.Need-returns-4 (claims m) (here m) reads.Post
+  returns-4 c = split (c .before .before) true (sym (c .before .equal-leaves .ensures) ∙ c .if4 .taken)
 
-  fourth-read : (c : End4)
-      → let a = start (calls4 c) .args in
-      let d = end2 (end3 c) in
-      Fourth (a .w) (a .h) (a .x) (a .y) (a .side) (a .t .now) (a .at) (p1 (end1 d)) (p2 d) (p3 (end3 c)) (p4 c)
-  fourth-read c =
-      record {
-        before = third-read (end3 c);
-        end = λ j e. sym (c .before .p4 .given .1) ∙ c .before .before .before .walk4 .ensures .ends j e;
-      }
-
-  all-painted : (c : End4)
-      → let a = start (calls4 c) .args in
-      let after = c .before .before .before .walk4 .last .1 .1 .1 .1 .1 .1 .1 .0 in
-      PaintedTree (a .x) (a .y) (a .side) (a .t .now) (a .at) (a .rows .now) after
-  all-painted c =
-      split-painted (fourth-read c) (painted1 (end1 (end2 (end3 c)))) (painted2 (end2 (end3 c))) (painted3 (end3 c))
-      (c .before .before .before .walk4 .ensures .painted (p4 c) (c .before .p4 .given .1))
-
-  -- where the children end at at + 5, the five bytes are in the slice
-  room : (c : lts.Then6 (claims t) (here t) reads.Post) (i : ℕ) → i < 5
-      → start (calls4 (c .before)) .args .at + i < length (start (calls4 (c .before)) .args .t .now)
-  room c i =
-      let square = start (calls4 (c .before)) .pre .1 .0 in
-      below-end _ _ i _ (c .if6 .taken)
-      (fourth-inside _ _ _ _ _ _ _ _ _ _ _ (fourth-read (c .before)) (square .height) (square .power))
-
-  add-if6 : lts.Need-add-if6 (claims t) (here t) reads.Post
-  add-if6 c =
-      record { fits = fits-near _ _ 5 (start (calls4 c) .good .0 .1) (split-known (calls4 c) .inside) (omega arith) }
-
-  four-equal-requires : lts.Need-four-equal-requires (claims t) (here t) reads.Post
-  four-equal-requires c κs = room c 4 (omega arith)
-
-  returns-10 : lts.Need-returns-10 (claims t) (here t) reads.Post
-  returns-10 c =
-      let five = c .before .before in
-      judged-bad (same-bad _ _ _ _ _ _ _ _ _ _ _ (fourth-read (five .before)) (five .if6 .taken)
-      (sym (c .before .four-equal .ensures) ∙ c .if7 .taken))
-
-  returns-11 : lts.Need-returns-11 (claims t) (here t) reads.Post
-  returns-11 c =
-      let e = c .before .before .before in
-      judged-at
-      (split-end _ _ _ _ _ _ _ _ _ _ _ (fourth-read e) (λ short. sym (c .before .four-equal .ensures) ∙ c .if7 .left))
-      (all-painted e)
-
-  returns-12 : lts.Need-returns-12 (claims t) (here t) reads.Post
-  returns-12 c =
-      judged-at (split-end _ _ _ _ _ _ _ _ _ _ _ (fourth-read (c .before)) (λ short. absurd (c .if6 .left short)))
-      (all-painted (c .before))
+  returns-5 : lts.Need-returns-5 (claims m) (here m) reads.Post
+  returns-5 c = split (c .before .before) false (sym (c .before .equal-leaves .ensures) ∙ c .if4 .left)
 
 pub +walk-spec : {M : Type 1} → statement M
 +walk-spec =
-    close side-of λ t. lts.spec (claims t) (here t) reads.Post
-    (returns t)
-    (shared-slice-read-b t)
-    (leaf-formed-requires t)
-    (returns-2 t)
-    (cast-raise-square t)
-    (raise-square-requires t)
-    (add-t23 t)
-    (returns-3 t)
-    (returns-4 t)
-    (quarters-requires t)
-    (returns-5 t)
-    (add-walk t)
-    (walk-requires t)
-    (enum-known-p1 t)
-    (enum-told t)
-    (returns-6 t)
-    (add-walk-2 t)
-    (walk-requires-2 t)
-    (enum-known-p2 t)
-    (enum-told-2 t)
-    (returns-7 t)
-    (add-walk-3 t)
-    (walk-requires-3 t)
-    (enum-known-p3 t)
-    (enum-told-3 t)
-    (returns-8 t)
-    (add-walk-4 t)
-    (add-walk-5 t)
-    (walk-requires-4 t)
-    (enum-known-p4 t)
-    (enum-told-4 t)
-    (returns-9 t)
-    (add-if6 t)
-    (four-equal-requires t)
-    (returns-10 t)
-    (returns-11 t)
-    (returns-12 t)
+    close side-of λ m.
+    lts.spec (claims m) (here m) reads.Post (returns m) (shared-slice-read-if2 m) (leaf-requires m) (returns-2 m)
+    (quarters-requires m) (returns-3 m) (add-walk m) (walk-requires m) (λ c. search needs) (walk-requires-2 m)
+    (λ c. search needs) (walk-requires-3 m) (λ c. search needs) (λ c. search needs) (walk-requires-4 m)
+    (add-equal-leaves m) (equal-leaves-requires m) (returns-4 m) (returns-5 m)

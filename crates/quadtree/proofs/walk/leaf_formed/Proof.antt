@@ -17,18 +17,6 @@ returns-2 c k power =
     let a = c .before .before .args in
     form-high (a .w) (a .h) k (a .x) (a .y) (a .side) (a .b) power (c .if2 .taken)
 
-add-if3 : tie.Need-add-if3
-add-if3 c = search needs
-
-mul-if3 : tie.Need-mul-if3
-mul-if3 c = search needs
-
-add-result : tie.Need-add-result
-add-result c = search needs
-
-mul-result : tie.Need-mul-result
-mul-result c = search needs
-
 returns-3 : tie.Need-returns-3
 returns-3 c k power =
     let a = c .before .before .before .args in
@@ -47,4 +35,5 @@ returns-4 c k power =
 pub leaf-formed-spec : {M : Type 1} → statement M
 leaf-formed-spec =
     tie.close
-    (tie.spec returns returns-2 add-if3 mul-if3 add-result mul-result returns-3 returns-4)
+    (tie.spec returns returns-2 (λ c. search needs) (λ c. search needs) (λ c. search needs) (λ c. search needs)
+    returns-3 returns-4)

@@ -12,9 +12,6 @@ use Rattle.table.proofs.CauseLaws.{region-none, table, table-by, table-
 use Rattle.table.proofs.cause.check.Statement.{statement}
 use Rattle.table.proofs.cause.check.Tie as tie
 
-region-cause-requires : tie.Need-region-cause-requires
-region-cause-requires c κs = search needs
-
 returns : tie.Need-returns
 returns c =
     let a = c .before .before .before .before .args in (
@@ -55,8 +52,8 @@ painted : (c : tie.Else1)
     → c .before .region-cause .last .1 .1 .1 .0 ≡ levelRows (c .before .before .before .before .args .t .now)
 painted c = c .before .region-cause .ensures .1 (c .if1 .left)
 
-table-faults-requires : tie.Need-table-faults-requires
-table-faults-requires c κs =
+of-table-requires : tie.Need-of-table-requires
+of-table-requires c κs =
     let e = c .before in
     let d = e .before .before in
     let a = d .before .before .before .before .args in
@@ -64,8 +61,8 @@ table-faults-requires c κs =
     (sides .1, sides .2, size e, rw (painted d) (rows-nested (levels (a .t .now))))
 
 -- by the flags of the faults
-flagged : (c : tie.After-table-faults) (l z : Bool) → c .table-faults .result .over ≡ not l
-    → c .table-faults .result .stray ≡ not z
+flagged : (c : tie.After-of-table) (l z : Bool) → c .of-table .result .over ≡ not l
+    → c .of-table .result .stray ≡ not z
     → let a = c .before .before .before .before .before .before .before .before .args in
     table 0 true l z ≡ tableCause (a .w) (a .h) (a .t .now) (a .cs .now)
 flagged c l z over stray =
@@ -78,13 +75,13 @@ flagged c l z over stray =
     let sides = region-none (a .w) (a .h) t (none d) in
     table-by (a .w) (a .h) t cs true l z (none d) (sym (eq-eqb (length cs) (slots (a .w) (a .h)) (size e)))
     (limits-flag (a .w) (a .h) t cs rows (sides .1) (sides .2) (painted d)
-    (c .table-faults .ensures .limited) over)
+    (c .of-table .ensures .limited) over)
     (zeros-flag (a .w) (a .h) t cs rows (sides .1) (sides .2) (painted d)
-    (c .table-faults .ensures .zeroed) stray)
+    (c .of-table .ensures .zeroed) stray)
 
 returns-3 : tie.Need-returns-3
 returns-3 c =
-    let stray = c .before .table-faults .result .stray in
+    let stray = c .before .of-table .result .stray in
     (flagged (c .before) false (not stray) (c .if3 .taken) (sym (Bool·not-not stray)), λ e. absurd (omega arith))
 
 returns-4 : tie.Need-returns-4
@@ -101,11 +98,11 @@ pub check-spec : {M : Type 1} → statement M
 check-spec =
     tie.close
     (tie.spec
-    region-cause-requires
+    (λ c κs. search needs)
     returns
     start-requires
     returns-2
-    table-faults-requires
+    of-table-requires
     returns-3
     returns-4
     returns-5)

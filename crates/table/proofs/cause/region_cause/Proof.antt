@@ -10,12 +10,6 @@ use Rattle.table.proofs.CauseLaws.{region-by}
 use Rattle.table.proofs.cause.region_cause.Statement.{statement}
 use Rattle.table.proofs.cause.region_cause.Tie as tie
 
-good-side-requires : tie.Need-good-side-requires
-good-side-requires c κs = search needs
-
-good-side-requires-2 : tie.Need-good-side-requires-2
-good-side-requires-2 c κs = search needs
-
 -- the sides are good past their tests
 good-w : (c : tie.Then1) → true ≡ goodSide (c .before .before .before .args .w)
 good-w c = sym (c .if1 .taken) ∙ c .before .good-side .ensures
@@ -67,8 +61,8 @@ pub region-cause-spec : {M : Type 1} → statement M
 region-cause-spec =
     tie.close
     (tie.spec
-    good-side-requires
-    good-side-requires-2
+    (λ c κs. search needs)
+    (λ c κs. search needs)
     regions-requires
     returns
     returns-2

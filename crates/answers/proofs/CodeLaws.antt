@@ -1,0 +1,66 @@
+-- The codes and values of an answer that a call is known to have given.
+use mathlib.Core.Path.{_≡_, refl, sym, ap, _∙_, subst}
+use Prim.Native.Nat.{ℕ}
+use lib.IntN.{ℤ}
+use lib.Ieee.{Float}
+use mir.Syntax.{w64}
+use mir.Val.{SFits, toZ, ofZ}
+use mir.ValLaws.{toZ-ofZ}
+use Rattle.surface.specs.Calls.{Answer, refused, gives, LeastLevel}
+use Rattle.surface.specs.FloatReading.{FloatMeets}
+use Rattle.surface.specs.TableFile.{FileResult}
+use Rattle.answers.specs.Answers.{lengthAnswer}
+use Rattle.answers.specs.declared.Length.{Length}
+use Rattle.answers.specs.declared.Length.the-variants.{Bytes, Refused}
+use Rattle.answers.specs.Codes.{codeOf, NumberTold, LeastTold, WattsAfter, FileTold}
+
+pub told-level : {o : Answer LeastLevel} (l v a b : ℕ) → gives (record { level = l; visited = v }) ≡ o
+    → LeastTold o 0 a l b v
+told-level l v a b e = subst (λ o. LeastTold o 0 a l b v) e (refl, refl, refl)
+
+pub told-refused : {o : Answer LeastLevel} (n a b : ℕ) → refused n ≡ o → LeastTold o n a a b b
+told-refused n a b e = subst (λ o. LeastTold o n a a b b) e (refl, refl, refl)
+
+pub code-done : {A : Type 0} {o : Answer A} (a : A) → gives a ≡ o → 0 ≡ codeOf o
+code-done a e = subst (λ o. 0 ≡ codeOf o) e refl
+
+pub code-refused : {A : Type 0} {o : Answer A} (n : ℕ) → refused n ≡ o → n ≡ codeOf o
+code-refused n e = subst (λ o. n ≡ codeOf o) e refl
+
+pub number-given : {A : Type 0} {o : Answer A} (n a : A) → gives n ≡ o → NumberTold o 0 a n
+number-given n a e = subst (λ o. NumberTold o 0 a n) e (refl, refl)
+
+pub number-refused : {A : Type 0} {o : Answer A} (n : ℕ) (a : A) → refused n ≡ o → NumberTold o n a a
+number-refused n a e = subst (λ o. NumberTold o n a a) e (refl, refl)
+
+-- a signed number is written as its bits
+pub signed-given : {o : Answer ℤ} (n a : ℤ) → SFits w64 n → gives n ≡ o → NumberTold o 0 a (toZ w64 (ofZ w64 n))
+signed-given n a fits e =
+    let t = number-given n a e in
+    (t .0, toZ-ofZ w64 n fits ∙ t .1)
+
+-- what a call that writes a table leaves, by its answer and what holds of both outputs
+pub table-given : {o : Answer ℕ} {r : Length} {T N : Type 0} (n a : ℕ) → r ≡ Bytes n → (lengthAnswer r ≡ o) × T × N
+    → NumberTold o 0 a n × T × N
+table-given n a e p = (number-given n a (ap lengthAnswer (sym e) ∙ p .0), p .1, p .2)
+
+pub table-refused : {o : Answer ℕ} {r : Length} {T N : Type 0} (n a : ℕ) → r ≡ Refused n
+    → (lengthAnswer r ≡ o) × T × N → NumberTold o n a a × T × N
+table-refused n a e p = (number-refused n a (ap lengthAnswer (sym e) ∙ p .0), p .1, p .2)
+
+-- the exact outcome that an f64 reading meets is given or refused as the reading is
+pub watts-given : (o : Answer ℤ) (x old : Float) → FloatMeets o (gives x) → (0 ≡ codeOf o) × WattsAfter o old x
+watts-given (refused n) x old m = absurd m
+watts-given (gives n) x old m = (refl, m)
+
+pub watts-refused : (o : Answer ℤ) (n : ℕ) (old : Float) → FloatMeets o (refused n)
+    → (n ≡ codeOf o) × WattsAfter o old old
+watts-refused (refused m) n old e = (e, refl)
+watts-refused (gives m) n old e = absurd e
+
+pub file-given : {o : Answer FileResult} (n W H a b c : ℕ) → gives (record { treeLength = n; W = W; H = H }) ≡ o
+    → FileTold o 0 a n b W c H
+file-given n W H a b c e = subst (λ o. FileTold o 0 a n b W c H) e (refl, refl, refl, refl)
+
+pub file-refused : {o : Answer FileResult} (n a b c : ℕ) → refused n ≡ o → FileTold o n a a b b c c
+file-refused n a b c e = subst (λ o. FileTold o n a a b b c c) e (refl, refl, refl, refl)

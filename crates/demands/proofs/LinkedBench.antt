@@ -1,0 +1,52 @@
+-- The bench sheet's insertion among linked calls, by the bench sheet's own cases and by demand 3.
+use mathlib.Core.Path.{refl, sym, subst}
+use mathlib.Core.List.{[], _∷_}
+use lib.IntN.{pos}
+use Rattle.surface.specs.Table.{Acceptable}
+use Rattle.surface.specs.Calls.{insertCause, insertOutcome}
+use Rattle.surface.specs.Demands.{Contents}
+use Rattle.surface.specs.Bench.{S, carriedS, flat, refined}
+use Rattle.surface.proofs.Bench.{bench-sheet}
+use Rattle.surface.proofs.Demands.{reading-given}
+use Rattle.demands.specs.DemandThree.{Kept, standing}
+use Rattle.answers.specs.Codes.{TableWritten}
+use Rattle.demands.specs.LinkedDemandThree.{kilnInsert, LinkedAsPromised, leftByLinked}
+use Rattle.demands.specs.LinkedBench.{tableS, pastTheSheet, wholeSheet, benchCalls, bench-left, LinkedBench}
+use Rattle.answers.proofs.CodeLaws.{number-given}
+use Rattle.demands.proofs.LinkedDemandThree.{linked-demand-three}
+
+-- the box past the sheet is refused on every acceptable table
+past : (c : Contents) → Acceptable 1 1 (c .tree) (c .numbers) → LinkedAsPromised 1 1 c (kilnInsert pastTheSheet)
+unfolding insertOutcome insertCause
+past c acc = rw acc ((refl, refl), refl, refl)
+
+whole : LinkedAsPromised 1 1 tableS (kilnInsert wholeSheet)
+whole =
+    subst (λ o. TableWritten o 0 77 13 (wholeSheet .tree) carriedS) (sym (bench-sheet .inserted))
+    ((refl, refl), refl, refl)
+
+S-acceptable : Acceptable 1 1 flat S
+S-acceptable = reading-given 1 1 flat S 64 5 (pos 79164837199872000) .0 (bench-sheet .slope .0) .0
+
+refined-acceptable : Acceptable 1 1 refined carriedS
+unfolding Kept standing
+refined-acceptable = linked-demand-three .lists 1 1 tableS (kilnInsert wholeSheet ∷ []) S-acceptable (whole, tt) .0
+
+made : Kept (LinkedAsPromised 1 1) leftByLinked tableS benchCalls
+unfolding Kept
+made =
+    let refined-table : Contents = record { tree = refined; numbers = carriedS } in
+    (past tableS S-acceptable, (whole, (past refined-table refined-acceptable, tt)))
+
+-- S reads 500×D by the bench sheet, and after the list by demand 3
+pub linked-bench : LinkedBench
+linked-bench =
+    record {
+      made = made;
+      leaves = bench-left;
+      reads = λ code old n p.
+          let half = pos 79164837199872000 in
+          let s = linked-demand-three .lists 1 1 tableS benchCalls S-acceptable made .1 64 5 0 code old half old n
+          (number-given half old (sym (bench-sheet .slope .0))) p in
+          (s .sameCode, s .sameNumerator (s .sameCode));
+    }

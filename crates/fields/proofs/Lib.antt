@@ -1,0 +1,6 @@
+pub mod FieldLaws
+pub mod PositionLaws
+pub mod NumberLaws
+pub mod PutLaws
+pub mod FiveBytes
+pub mod Written

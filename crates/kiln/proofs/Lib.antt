@@ -1,3 +1,0 @@
-pub mod CodeLaws
-pub mod LinkedDemandThree
-pub mod LinkedBench

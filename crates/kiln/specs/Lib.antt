@@ -1,4 +1,0 @@
-pub mod Codes
-pub mod Promises
-pub mod LinkedDemandThree
-pub mod LinkedBench

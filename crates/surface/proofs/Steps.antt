@@ -1,0 +1,92 @@
+-- A list of steps, accepted and refused ones: the table stays acceptable and its readings stay.
+use mathlib.Core.Path.{_≡_, refl, sym, ap, _∙_, subst}
+use mathlib.Core.Bool.{not, _&&_}
+use mathlib.Core.List.{List, [], _∷_}
+use Prim.Native.Nat.{ℕ, zero, suc, _≤_}
+use lib.IntN.{ℤ}
+use lib.Dec.{leb, ltb}
+use lib.ListN.{length, drop}
+use lib.Seq.{take-append-seam}
+use borrow.Author.Tests.{leb-true}
+use Rattle.finite.proofs.Tests.{both}
+use Rattle.surface.specs.Sheet.{Box, quarters}
+use Rattle.surface.specs.Table.{cause, _orElse_, tableCause, Acceptable, tableReading}
+use Rattle.surface.specs.Calls.{refused, answer, afterwards, put, insertCause, insertOutcome, boxCause}
+use Rattle.surface.specs.Calls.{outputsCause, newTree, newCoefficients, refinementCause}
+use Rattle.surface.specs.Demands.{Insertion, Contents, left, outcomeOf, inserted, Step}
+use Rattle.surface.specs.Demands.{insertion, afterStep, afterAll}
+use Rattle.surface.proofs.TableLaws.{sound, acceptable}
+use Rattle.surface.proofs.Insertion.{insertion-sound, insertion-reading}
+use Rattle.surface.proofs.Causes.{orElse-none, cause-none}
+
+-- what the causes of an insertion exclude
+pub accepted : (W H : ℕ) (t : List ℕ) (cs : List ℤ) (box : Box) (n : ℕ) → refinementCause W H t cs box n ≡ 0
+    → (tableCause W H t cs ≡ 0) × (box .u1 ≤ quarters W) × (box .v1 ≤ quarters H) × (n ≤ 3)
+accepted W H t cs box n e =
+    let inside = leb (box .u1) (quarters W) && leb (box .v1) (quarters H) in
+    let area = ltb (box .u0) (box .u1) && ltb (box .v0) (box .v1) in
+    let c8 = cause 8 (not (leb 1 n && leb n 3)) in
+    let e1 = orElse-none (tableCause W H t cs) (boxCause W H box orElse c8) e in
+    let e2 = orElse-none (boxCause W H box) c8 (e1 .1) in
+    let b = both area inside (cause-none 6 (area && inside) (e2 .0)) .1 in
+    let b2 = both (leb (box .u1) (quarters W)) (leb (box .v1) (quarters H)) b in
+    let m = both (leb 1 n) (leb n 3) (cause-none 7 (leb 1 n && leb n 3) (e2 .1)) .1 in
+    (e1 .0, leb-true (box .u1) (quarters W) (b2 .0), leb-true (box .v1) (quarters H) (b2 .1), leb-true n 3 m)
+
+-- an insertion leaves the table it read, or the one it wrote
+pub inserted-cases : (W H : ℕ) (c : Contents) (i : Insertion) (P : Contents → Type 0)
+    → ((m : ℕ) → outcomeOf W H c i .result ≡ refused m → P c)
+    → (refinementCause W H (c .tree) (c .numbers) (i .box) (i .level) ≡ 0
+    → P (record {
+      tree = newTree (c .tree) (i .box) (i .level);
+      numbers = newCoefficients W H (c .tree) (c .numbers)
+          (i .box) (i .level);
+    }))
+    → P (inserted W H c i)
+unfolding insertOutcome insertCause
+inserted-cases W H c i P same new =
+    go (insertCause W H (c .tree) (c .numbers) (i .box) (i .level) (i .treeOut) (i .numbersOut)) refl
+  where
+    tree′ : List ℕ
+    tree′ = newTree (c .tree) (i .box) (i .level)
+
+    numbers′ : List ℤ
+    numbers′ = newCoefficients W H (c .tree) (c .numbers) (i .box) (i .level)
+
+    go : (k : ℕ) → insertCause W H (c .tree) (c .numbers) (i .box) (i .level) (i .treeOut) (i .numbersOut) ≡ k
+        → P (left c (answer k (length tree′)) (afterwards k (i .treeOut) (put tree′ (i .treeOut)))
+        (afterwards k (i .numbersOut) numbers′))
+    go zero e =
+        subst (λ l. P (record { tree = l; numbers = numbers′ }))
+        (sym (take-append-seam tree′ (drop (length tree′) (i .treeOut))))
+        (new (orElse-none (refinementCause W H (c .tree) (c .numbers) (i .box) (i .level))
+        (outputsCause W H tree′ (i .treeOut) (i .numbersOut)) e .0))
+    go (suc k) e = same (suc k) (ap (λ m. answer m (length tree′)) e)
+
+-- one step: an insertion, accepted or refused
+step-keeps : (W H : ℕ) (c : Contents) (s : Step) → Acceptable W H (c .tree) (c .numbers)
+    → let d = afterStep W H c s in
+    Acceptable W H (d .tree) (d .numbers)
+    × ((u v : ℕ) → tableReading W H (d .tree) (d .numbers) u v ≡ tableReading W H (c .tree) (c .numbers) u v)
+step-keeps W H c (insertion i) acc =
+    inserted-cases W H c i
+    (λ d. Acceptable W H (d .tree) (d .numbers)
+    × ((u v : ℕ) → tableReading W H (d .tree) (d .numbers) u v ≡ tableReading W H (c .tree) (c .numbers) u v))
+    (λ _ _. (acc, λ u v. refl))
+    (λ e. let a = accepted W H (c .tree) (c .numbers) (i .box) (i .level) e in
+    let s = sound W H (c .tree) (c .numbers) acc in (
+      acceptable W H _ _ (insertion-sound W H (c .tree) (c .numbers) s (i .box) (i .level) (a .3) (a .1) (a .2)),
+      insertion-reading W H (c .tree) (c .numbers) s (i .box) (i .level) (a .3) (a .1) (a .2),
+    ))
+
+pub all-keep : (W H : ℕ) (ss : List Step) (c : Contents) → Acceptable W H (c .tree) (c .numbers)
+    → Acceptable W H (afterAll W H c ss .tree) (afterAll W H c ss .numbers)
+    × ((u v : ℕ)
+    → tableReading W H (afterAll W H c ss .tree) (afterAll W H c ss .numbers) u v ≡ tableReading W H (c .tree)
+    (c .numbers) u v)
+unfolding afterAll
+all-keep W H [] c acc = (acc, λ u v. refl)
+all-keep W H (s ∷ ss) c acc =
+    let k = step-keeps W H c s acc in
+    let m = all-keep W H ss (afterStep W H c s) (k .0) in
+    (m .0, λ u v. m .1 u v ∙ k .1 u v)
