@@ -72,10 +72,10 @@ fn fill_row(row: &mut [i64], own: &[i64], sums: &[i64; 35], inside: activity::Ma
 }
 
 // Writes the carried values of the level after `coarse`; those of the levels up to `coarse` are written.
-fn fill_level(out: &mut [i64], cs: &[i64], rows: &[u32; 96], w: usize, h: usize, coarse: usize)
-    requires { ⌜ (w ≤ 8) × (h ≤ 8) × (coarse < 3) × (length (now cs) ≡ slots w h) × Nested (now rows)
-        × CarriedFit w h (now rows) (now cs) × CarriedTo (start w h (coarse + 1)) w h (now rows) (now cs) (now out) ⌝ }
-    ensures { λ r. ⌜ CarriedTo (start w h (coarse + 2)) w h (now (rows .entry)) (now (cs .entry)) (now (out .exit)) ⌝ }
+fn fill_level(out: &mut [i64], numbers: &[i64], rows: &[u32; 96], w: usize, h: usize, coarse: usize)
+    requires { ⌜ (w ≤ 8) × (h ≤ 8) × (coarse < 3) × (length (now numbers) ≡ slots w h) × Nested (now rows)
+        × CarriedFit w h (now rows) (now numbers) × CarriedTo (start w h (coarse + 1)) w h (now rows) (now numbers) (now out) ⌝ }
+    ensures { λ r. ⌜ CarriedTo (start w h (coarse + 2)) w h (now (rows .entry)) (now (numbers .entry)) (now (out .exit)) ⌝ }
 {
     let level = coarse + 1;
     let low = coefficients::start(w, h, coarse);
@@ -90,7 +90,7 @@ fn fill_level(out: &mut [i64], cs: &[i64], rows: &[u32; 96], w: usize, h: usize,
         let inside = activity::region_row(rows, w, h, level, b, level);
         let sums = along_v(&out[low..first], columns, b);
         let to = from + n;
-        fill_row(&mut out[from..to], &cs[from..to], &sums, inside, e);
+        fill_row(&mut out[from..to], &numbers[from..to], &sums, inside, e);
         from = to;
         b += 1;
     }
@@ -110,15 +110,15 @@ fn copy(out: &mut [i64], numbers: &[i64], n: usize)
 }
 
 // The carried values of all functions of all levels, each at its place.
-pub fn fill(cs: &[i64], rows: &[u32; 96], w: usize, h: usize, out: &mut [i64])
-    requires { ⌜ (w ≤ 8) × (h ≤ 8) × (length (now cs) ≡ slots w h) × (length (now out) ≡ slots w h)
-        × Nested (now rows) × CarriedFit w h (now rows) (now cs) ⌝ }
-    ensures { λ _. ⌜ now (out .exit) ≡ carriedSlice w h (now (rows .entry)) (now (cs .entry)) ⌝ }
+pub fn fill(numbers: &[i64], rows: &[u32; 96], w: usize, h: usize, out: &mut [i64])
+    requires { ⌜ (w ≤ 8) × (h ≤ 8) × (length (now numbers) ≡ slots w h) × (length (now out) ≡ slots w h)
+        × Nested (now rows) × CarriedFit w h (now rows) (now numbers) ⌝ }
+    ensures { λ _. ⌜ now (out .exit) ≡ carriedSlice w h (now (rows .entry)) (now (numbers .entry)) ⌝ }
 {
-    copy(out, cs, coefficients::places(w, h, 0));
+    copy(out, numbers, coefficients::places(w, h, 0));
     let mut coarse = 0;
     while coarse < 3 {
-        fill_level(out, cs, rows, w, h, coarse);
+        fill_level(out, numbers, rows, w, h, coarse);
         coarse += 1;
     }
 }

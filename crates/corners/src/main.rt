@@ -45,17 +45,17 @@ fn wide(b: u8) -> usize
 }
 
 // Whole watts at the corner (u, v), in cells.
-fn watts_at(cs: &[i64], rows: &[u32; 96], w: usize, h: usize, u: usize, v: usize) -> i64
-    requires { ⌜ (u ≤ w) × (v ≤ h) × OfTable w h (now rows) (now cs) ⌝ }
-    ensures { λ r. ⌜ ((t : List ℕ) → now (rows .entry) ≡ levelRows t → Acceptable w h t (now (cs .entry))
-        → r ≡ wholeWatts (tableReading w h t (now (cs .entry)) (128 * u) (128 * v))) × (natAbs r ≤ 60000) ⌝ }
+fn watts_at(numbers: &[i64], rows: &[u32; 96], w: usize, h: usize, u: usize, v: usize) -> i64
+    requires { ⌜ (u ≤ w) × (v ≤ h) × OfTable w h (now rows) (now numbers) ⌝ }
+    ensures { λ r. ⌜ ((t : List ℕ) → now (rows .entry) ≡ levelRows t → Acceptable w h t (now (numbers .entry))
+        → r ≡ wholeWatts (tableReading w h t (now (numbers .entry)) (128 * u) (128 * v))) × (natAbs r ≤ 60000) ⌝ }
 {
-    rounding::whole_watts(point::reading_at(cs, rows, w, h, 128 * u, 128 * v))
+    rounding::whole_watts(point::reading_at(numbers, rows, w, h, 128 * u, 128 * v))
 }
 
 // One row of corners, u rising. A line has at most 11 bytes.
 fn row(
-    cs: &[i64],
+    numbers: &[i64],
     rows: &[u32; 96],
     w: usize,
     h: usize,
@@ -63,15 +63,15 @@ fn row(
     out: &mut [u8],
     start: usize,
 ) -> usize
-    requires { ⌜ (v ≤ h) × OfTable w h (now rows) (now cs) × (start + 99 ≤ length (now out)) ⌝ }
-    ensures { λ r. ⌜ ((t : List ℕ) → now (rows .entry) ≡ levelRows t → Acceptable w h t (now (cs .entry))
-        → Put (joined (w + 1) (cornerLine w h t (now (cs .entry)) v)) start (now (out .entry)) r (now (out .exit)))
+    requires { ⌜ (v ≤ h) × OfTable w h (now rows) (now numbers) × (start + 99 ≤ length (now out)) ⌝ }
+    ensures { λ r. ⌜ ((t : List ℕ) → now (rows .entry) ≡ levelRows t → Acceptable w h t (now (numbers .entry))
+        → Put (joined (w + 1) (cornerLine w h t (now (numbers .entry)) v)) start (now (out .entry)) r (now (out .exit)))
         × (r ≤ start + 99) ⌝ }
 {
     let mut at = start;
     let mut u = 0;
     while u <= w {
-        let watts = watts_at(cs, rows, w, h, u, v);
+        let watts = watts_at(numbers, rows, w, h, u, v);
         at = text::line(u, v, watts, out, at);
         u += 1;
     }
@@ -79,9 +79,9 @@ fn row(
 }
 
 // All corners of an acceptable table: v rising, within it u.
-fn table_text(tree: &[u8], cs: &[i64], w: usize, h: usize, out: &mut [u8]) -> usize
-    requires { ⌜ Acceptable w h (now tree) (now cs) × (901 ≤ length (now out)) ⌝ }
-    ensures { λ r. ⌜ Put (tableText w h (now (tree .entry)) (now (cs .entry))) 0 (now (out .entry)) r (now (out .exit))
+fn table_text(tree: &[u8], numbers: &[i64], w: usize, h: usize, out: &mut [u8]) -> usize
+    requires { ⌜ Acceptable w h (now tree) (now numbers) × (901 ≤ length (now out)) ⌝ }
+    ensures { λ r. ⌜ Put (tableText w h (now (tree .entry)) (now (numbers .entry))) 0 (now (out .entry)) r (now (out .exit))
         × (r ≤ 901) ⌝ }
 {
     let mut rows = [0u32; 96];
@@ -89,7 +89,7 @@ fn table_text(tree: &[u8], cs: &[i64], w: usize, h: usize, out: &mut [u8]) -> us
     let mut at = text::header(out);
     let mut v = 0;
     while v <= h {
-        at = row(cs, &rows, w, h, v, out, at);
+        at = row(numbers, &rows, w, h, v, out, at);
         v += 1;
     }
     at

@@ -111,16 +111,16 @@ fn set_cause(
     w: usize,
     h: usize,
     t: &[u8],
-    cs: &[i64],
+    numbers: &[i64],
     level: usize,
     i: i64,
     j: i64,
     number: i64,
 ) -> u8
-    ensures { λ r. ⌜ r ≡ setCause w h (now (t .entry)) (now (cs .entry)) level i j number ⌝ }
+    ensures { λ r. ⌜ r ≡ setCause w h (now (t .entry)) (now (numbers .entry)) level i j number ⌝ }
 {
     let mut rows = [0u32; 96];
-    let cause = table::cause::check(w, h, t, cs, &mut rows);
+    let cause = table::cause::check(w, h, t, numbers, &mut rows);
     if cause != 0 {
         return cause;
     }

@@ -96,9 +96,9 @@ fn of_row(
 }
 
 // The faults of a level, row by row.
-fn of_level(cs: &[i64], rows: &[u32; 96], w: usize, h: usize, level: usize) -> Faults
-    requires { ⌜ (w ≤ 8) × (h ≤ 8) × (level ≤ 3) × (length (now cs) ≡ slots w h) × Nested (now rows) ⌝ }
-    ensures { λ r. ⌜ LevelFaults w h level (now (rows .entry)) (now (cs .entry)) (r .over) (r .stray) ⌝ }
+fn of_level(numbers: &[i64], rows: &[u32; 96], w: usize, h: usize, level: usize) -> Faults
+    requires { ⌜ (w ≤ 8) × (h ≤ 8) × (level ≤ 3) × (length (now numbers) ≡ slots w h) × Nested (now rows) ⌝ }
+    ensures { λ r. ⌜ LevelFaults w h level (now (rows .entry)) (now (numbers .entry)) (r .over) (r .stray) ⌝ }
 {
     let mut from = coefficients::start(w, h, level);
     let n = coefficients::functions(w, level);
@@ -109,7 +109,7 @@ fn of_level(cs: &[i64], rows: &[u32; 96], w: usize, h: usize, level: usize) -> F
     let mut b = 0;
     while b < m {
         let to = from + n;
-        let f = of_row(&cs[from..to], rows, w, h, level, b, bound);
+        let f = of_row(&numbers[from..to], rows, w, h, level, b, bound);
         over = either(over, f.over);
         stray = either(stray, f.stray);
         from = to;
@@ -119,15 +119,15 @@ fn of_level(cs: &[i64], rows: &[u32; 96], w: usize, h: usize, level: usize) -> F
 }
 
 // The faults of all levels.
-pub fn of_table(cs: &[i64], rows: &[u32; 96], w: usize, h: usize) -> Faults
-    requires { ⌜ (w ≤ 8) × (h ≤ 8) × (length (now cs) ≡ slots w h) × Nested (now rows) ⌝ }
-    ensures { λ r. ⌜ TableFaults w h (now (rows .entry)) (now (cs .entry)) (r .over) (r .stray) ⌝ }
+pub fn of_table(numbers: &[i64], rows: &[u32; 96], w: usize, h: usize) -> Faults
+    requires { ⌜ (w ≤ 8) × (h ≤ 8) × (length (now numbers) ≡ slots w h) × Nested (now rows) ⌝ }
+    ensures { λ r. ⌜ TableFaults w h (now (rows .entry)) (now (numbers .entry)) (r .over) (r .stray) ⌝ }
 {
     let mut over = false;
     let mut stray = false;
     let mut level = 0;
     while level < 4 {
-        let f = of_level(cs, rows, w, h, level);
+        let f = of_level(numbers, rows, w, h, level);
         over = either(over, f.over);
         stray = either(stray, f.stray);
         level += 1;

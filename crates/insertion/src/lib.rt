@@ -17,15 +17,15 @@ fn refinement_cause(
     w: usize,
     h: usize,
     tree: &[u8],
-    cs: &[i64],
+    numbers: &[i64],
     b: boxes::Box,
     level: usize,
     rows: &mut [u32; 96],
 ) -> u8
-    ensures { λ r. ⌜ (r ≡ refinementCause w h (now (tree .entry)) (now (cs .entry)) (boxOf b) level)
+    ensures { λ r. ⌜ (r ≡ refinementCause w h (now (tree .entry)) (now (numbers .entry)) (boxOf b) level)
         × (r ≡ 0 → now (rows .exit) ≡ levelRows (now (tree .entry))) ⌝ }
 {
-    let refusal = table::cause::check(w, h, tree, cs, rows);
+    let refusal = table::cause::check(w, h, tree, numbers, rows);
     if refusal != 0 {
         return refusal;
     }
@@ -43,13 +43,20 @@ fn refinement_cause(
 }
 
 // Carries coefficients over from one table's regions to finer ones: carried values, and 0 at passive places.
-fn carry_over(cs: &[i64], rows: &[u32; 96], new: &[u32; 96], w: usize, h: usize, out: &mut [i64])
-    requires { ⌜ (w ≤ 8) × (h ≤ 8) × (length (now cs) ≡ slots w h) × (length (now out) ≡ slots w h)
-        × Nested (now rows) × Nested (now new) × CarriedFit w h (now rows) (now cs) ⌝ }
+fn carry_over(
+    numbers: &[i64],
+    rows: &[u32; 96],
+    new: &[u32; 96],
+    w: usize,
+    h: usize,
+    out: &mut [i64],
+)
+    requires { ⌜ (w ≤ 8) × (h ≤ 8) × (length (now numbers) ≡ slots w h) × (length (now out) ≡ slots w h)
+        × Nested (now rows) × Nested (now new) × CarriedFit w h (now rows) (now numbers) ⌝ }
     ensures { λ _. ⌜ now (out .exit)
-        ≡ sliceOf w h (overRows w h (now (rows .entry)) (now (new .entry)) (now (cs .entry))) ⌝ }
+        ≡ sliceOf w h (overRows w h (now (rows .entry)) (now (new .entry)) (now (numbers .entry))) ⌝ }
 {
-    carry::fill(cs, rows, w, h, out);
+    carry::fill(numbers, rows, w, h, out);
     passive::clear(out, new, w, h);
 }
 
@@ -57,17 +64,17 @@ fn carry_over(cs: &[i64], rows: &[u32; 96], new: &[u32; 96], w: usize, h: usize,
 fn write_refined(
     w: usize,
     h: usize,
-    cs: &[i64],
+    numbers: &[i64],
     rows: &[u32; 96],
     new: &[u32; 96],
     tree: &[u8],
     tree_out: &mut [u8],
     numbers_out: &mut [i64],
 ) -> answers::Length
-    requires { ⌜ (w ≤ 8) × (h ≤ 8) × (length (now cs) ≡ slots w h)
-        × Nested (now rows) × Nested (now new) × CarriedFit w h (now rows) (now cs) ⌝ }
+    requires { ⌜ (w ≤ 8) × (h ≤ 8) × (length (now numbers) ≡ slots w h)
+        × Nested (now rows) × Nested (now new) × CarriedFit w h (now rows) (now numbers) ⌝ }
     ensures { λ r. ⌜ TableMeets
-        (refinedOutcome w h (now (rows .entry)) (now (new .entry)) (now (cs .entry)) (now (tree .entry))
+        (refinedOutcome w h (now (rows .entry)) (now (new .entry)) (now (numbers .entry)) (now (tree .entry))
         (now («tree_out» .entry)) (now («numbers_out» .entry)))
         (lengthAnswer r) (now («tree_out» .exit)) (now («numbers_out» .exit)) ⌝ }
 {
@@ -77,7 +84,7 @@ fn write_refined(
         return answers::Length::Refused(late);
     }
     fields::put(tree, tree_out, 0);
-    carry_over(cs, rows, new, w, h, numbers_out);
+    carry_over(numbers, rows, new, w, h, numbers_out);
     answers::Length::Bytes(n)
 }
 
@@ -87,7 +94,7 @@ pub fn insert(
     w: usize,
     h: usize,
     tree: &[u8],
-    cs: &[i64],
+    numbers: &[i64],
     u0: usize,
     v0: usize,
     u1: usize,
@@ -96,7 +103,7 @@ pub fn insert(
     tree_out: &mut [u8],
     numbers_out: &mut [i64],
 ) -> answers::Length
-    ensures { λ r. ⌜ InsertPromise w h (record { tree = now (tree .entry); numbers = now (cs .entry) })
+    ensures { λ r. ⌜ InsertPromise w h (record { tree = now (tree .entry); numbers = now (numbers .entry) })
         (record {
           box = record { u0 = u0; v0 = v0; u1 = u1; v1 = v1 };
           level = level;
@@ -107,12 +114,21 @@ pub fn insert(
 {
     let mut rows = [0u32; 96];
     let b = boxes::Box { u0, v0, u1, v1 };
-    let cause = refinement_cause(w, h, tree, cs, b, level, &mut rows);
+    let cause = refinement_cause(w, h, tree, numbers, b, level, &mut rows);
     if cause != 0 {
         return answers::Length::Refused(cause);
     }
     let mut new = rows;
     let mut built = [0u8; 1365];
     let n = regions::insert(&mut new, b, level, &mut built);
-    write_refined(w, h, cs, &rows, &new, &built[0..n], tree_out, numbers_out)
+    write_refined(
+        w,
+        h,
+        numbers,
+        &rows,
+        &new,
+        &built[0..n],
+        tree_out,
+        numbers_out,
+    )
 }

@@ -29,13 +29,13 @@ fn in_part(part: &[i64], n: usize, a: usize, b: usize) -> [[i64; 4]; 4]
 }
 
 // Those of a level.
-pub fn own(cs: &[i64], w: usize, h: usize, level: usize, a: usize, b: usize) -> [[i64; 4]; 4]
+pub fn own(numbers: &[i64], w: usize, h: usize, level: usize, a: usize, b: usize) -> [[i64; 4]; 4]
     requires { ⌜ (w ≤ 8) × (h ≤ 8) × (level ≤ 3) × (a + 3 < functions w level) × (b + 3 < functions h level)
-        × (length (now cs) ≡ slots w h) ⌝ }
-    ensures { λ x. ⌜ OwnOf w h level (now (cs .entry)) a b x ⌝ }
+        × (length (now numbers) ≡ slots w h) ⌝ }
+    ensures { λ x. ⌜ OwnOf w h level (now (numbers .entry)) a b x ⌝ }
 {
     let n = coefficients::functions(w, level);
     let first = coefficients::start(w, h, level);
     let end = first + coefficients::places(w, h, level);
-    in_part(&cs[first..end], n, a, b)
+    in_part(&numbers[first..end], n, a, b)
 }

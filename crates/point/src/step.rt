@@ -39,20 +39,20 @@ fn choose_all(inside: [[bool; 4]; 4], own: [[i64; 4]; 4], coarse: [[i64; 4]; 4])
 }
 
 // The patch of level 0: its own coefficients.
-pub fn coarsest(cs: &[i64], w: usize, h: usize, u: usize, v: usize) -> [[i64; 4]; 4]
+pub fn coarsest(numbers: &[i64], w: usize, h: usize, u: usize, v: usize) -> [[i64; 4]; 4]
     requires { ⌜ (0 < w) × (w ≤ 8) × (0 < h) × (h ≤ 8) × (u ≤ 128 * w) × (v ≤ 128 * h)
-        × (length (now cs) ≡ slots w h) ⌝ }
-    ensures { λ x. ⌜ ((rows : List ℕ) → PatchAt w h rows (now (cs .entry)) u v 0 x) ⌝ }
+        × (length (now numbers) ≡ slots w h) ⌝ }
+    ensures { λ x. ⌜ ((rows : List ℕ) → PatchAt w h rows (now (numbers .entry)) u v 0 x) ⌝ }
 {
     let a = super::cell::cell_of(w, 0, u);
     let b = super::cell::cell_of(h, 0, v);
-    super::own::own(cs, w, h, 0, a, b)
+    super::own::own(numbers, w, h, 0, a, b)
 }
 
 // The patch of a level, from that of the level before it.
 pub fn finer(
     p: [[i64; 4]; 4],
-    cs: &[i64],
+    numbers: &[i64],
     rows: &[u32; 96],
     w: usize,
     h: usize,
@@ -61,13 +61,13 @@ pub fn finer(
     v: usize,
 ) -> [[i64; 4]; 4]
     requires { ⌜ (0 < w) × (w ≤ 8) × (0 < h) × (h ≤ 8) × (0 < level) × (level ≤ 3) × (u ≤ 128 * w) × (v ≤ 128 * h)
-        × (length (now cs) ≡ slots w h) × Bounded 131072000 p
-        × PatchAt w h (now rows) (now cs) u v (level - 1) p × Nested (now rows) ⌝ }
-    ensures { λ x. ⌜ PatchAt w h (now (rows .entry)) (now (cs .entry)) u v level x ⌝ }
+        × (length (now numbers) ≡ slots w h) × Bounded 131072000 p
+        × PatchAt w h (now rows) (now numbers) u v (level - 1) p × Nested (now rows) ⌝ }
+    ensures { λ x. ⌜ PatchAt w h (now (rows .entry)) (now (numbers .entry)) u v level x ⌝ }
 {
     let a = super::cell::cell_of(w, level, u);
     let b = super::cell::cell_of(h, level, v);
-    let own = super::own::own(cs, w, h, level, a, b);
+    let own = super::own::own(numbers, w, h, level, a, b);
     let inside = activity::near::near_region(rows, w, h, level, a, b);
     let coarse = patch::subdivide(p, a % 2, b % 2);
     choose_all(inside, own, coarse)

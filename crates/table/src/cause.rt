@@ -43,8 +43,8 @@ pub fn box_cause(w: usize, h: usize, b: boxes::Box) -> u8
 }
 
 // Causes 1 to 5, with the regions where none applies.
-pub fn check(w: usize, h: usize, t: &[u8], cs: &[i64], rows: &mut [u32; 96]) -> u8
-    ensures { λ r. ⌜ (r ≡ tableCause w h (now (t .entry)) (now (cs .entry)))
+pub fn check(w: usize, h: usize, t: &[u8], numbers: &[i64], rows: &mut [u32; 96]) -> u8
+    ensures { λ r. ⌜ (r ≡ tableCause w h (now (t .entry)) (now (numbers .entry)))
         × (r ≡ 0 → now (rows .exit) ≡ levelRows (now (t .entry))) ⌝ }
 {
     let region = region_cause(w, h, t, rows);
@@ -52,10 +52,10 @@ pub fn check(w: usize, h: usize, t: &[u8], cs: &[i64], rows: &mut [u32; 96]) -> 
         return region;
     }
     let slots = coefficients::start(w, h, 4);
-    if cs.len() != slots {
+    if numbers.len() != slots {
         return 3;
     }
-    let f = faults::of_table(cs, rows, w, h);
+    let f = faults::of_table(numbers, rows, w, h);
     if f.over {
         return 4;
     }
@@ -66,9 +66,9 @@ pub fn check(w: usize, h: usize, t: &[u8], cs: &[i64], rows: &mut [u32; 96]) -> 
 }
 
 // Causes 1 to 5.
-pub fn table_cause(w: usize, h: usize, t: &[u8], cs: &[i64]) -> u8
-    ensures { λ r. ⌜ r ≡ tableCause w h (now (t .entry)) (now (cs .entry)) ⌝ }
+pub fn table_cause(w: usize, h: usize, t: &[u8], numbers: &[i64]) -> u8
+    ensures { λ r. ⌜ r ≡ tableCause w h (now (t .entry)) (now (numbers .entry)) ⌝ }
 {
     let mut rows = [0u32; 96];
-    check(w, h, t, cs, &mut rows)
+    check(w, h, t, numbers, &mut rows)
 }

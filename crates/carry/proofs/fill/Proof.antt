@@ -31,7 +31,7 @@ loop-holds c =
     let s = c .before .before .before .before in
     let a = s .args in (
       omega arith,
-      level-zero (a .w) (a .h) (a .rows .now) (a .cs .now) (few .result) _ (s .pre .2) (copied .ensures .0 ∙ s .pre .3)
+      level-zero (a .w) (a .h) (a .rows .now) (a .numbers .now) (few .result) _ (s .pre .2) (copied .ensures .0 ∙ s .pre .3)
           (few .ensures .0) (copied .ensures .1),
     )
 
@@ -41,7 +41,7 @@ loop-again c =
     let a = turn .before .before .before .before .before .before .args in
     let next : turn .before .loop .coarse + 2 ≡ turn .before .loop .coarse + 1 + 1 = omega arith in (
       omega (arith, turn .loop-test .taken),
-      subst (λ k. CarriedTo (start (a .w) (a .h) k) (a .w) (a .h) (a .rows .now) (a .cs .now)
+      subst (λ k. CarriedTo (start (a .w) (a .h) k) (a .w) (a .h) (a .rows .now) (a .numbers .now)
           (c .before .fill-level .last .0)) next (c .before .fill-level .ensures),
     )
 
@@ -51,7 +51,7 @@ returns c =
     let a = c .before .before .before .before .before .before .args in
     let all : loop .coarse + 1 ≡ 4 = omega arith in
     slice-whole (a .w) (a .h)
-    (carried (a .w) (a .h) (levelsOf (a .rows .now)) (coefficients (a .w) (a .h) (a .cs .now))) (loop .out)
+    (carried (a .w) (a .h) (levelsOf (a .rows .now)) (coefficients (a .w) (a .h) (a .numbers .now))) (loop .out)
     (loop .inv .1 .size) (rw all at (loop .inv .1 .front))
 
 pub fill-spec : {M : Type 1} → statement M

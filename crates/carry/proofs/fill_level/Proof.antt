@@ -41,7 +41,7 @@ loop-holds c =
     let a = s .args in (
       omega arith,
       begins parts ∙ rows-none _ (wide .functions2 .result),
-      subst (λ k. CarriedTo k (a .w) (a .h) (a .rows .now) (a .cs .now) (a .out .now)) (sym (begins parts))
+      subst (λ k. CarriedTo k (a .w) (a .h) (a .rows .now) (a .numbers .now) (a .out .now)) (sym (begins parts))
           (s .pre .6),
     )
 
@@ -53,7 +53,7 @@ row c = subst (λ k. c .before .loop .b < k) (c .before .before .before .functio
 
 inside : (c : tie.In-loop Inv-loop μ-loop)
     → let wide = c .before .before .before .before in
-    c .before .loop .from + wide .functions2 .result ≤ length (wide .before .before .before .before .args .cs .now)
+    c .before .loop .from + wide .functions2 .result ≤ length (wide .before .before .before .before .args .numbers .now)
 inside c =
     let wide = c .before .before .before .before in
     let loop = c .before .loop in
@@ -65,7 +65,7 @@ inside c =
 
 same : (c : tie.In-loop Inv-loop μ-loop)
     → let s = c .before .before .before .before .before .before .before .before in
-    length (c .before .loop .out) ≡ length (s .args .cs .now)
+    length (c .before .loop .out) ≡ length (s .args .numbers .now)
 same c =
     let s = c .before .before .before .before .before .before .before .before in
     c .before .loop .inv .2 .size ∙ sym (s .pre .3)
@@ -82,13 +82,13 @@ reach c =
 coarser : (c : tie.In-loop Inv-loop μ-loop)
     → let parts = c .before .before .before .before .before .before in
     let a = parts .before .before .args in
-    Holds (a .w) (a .h) (a .rows .now) (a .cs .now) (a .coarse)
+    Holds (a .w) (a .h) (a .rows .now) (a .numbers .now) (a .coarse)
     (part (parts .before .start .result) (parts .places .result) (c .before .loop .out))
 coarser c =
     let parts = c .before .before .before .before .before .before in
     let s = parts .before .before in
     let a = s .args in
-    held (a .w) (a .h) (a .rows .now) (a .cs .now) (a .coarse) _ (parts .before .start .result) (parts .places .result)
+    held (a .w) (a .h) (a .rows .now) (a .numbers .now) (a .coarse) _ (parts .before .start .result) (parts .places .result)
     (c .before .loop .out) (omega (arith, s .pre .2)) (parts .before .start .ensures .0) (parts .places .ensures .0)
     (reach c) (omega (arith, c .before .loop .inv .1)) (c .before .loop .inv .2)
 
@@ -108,7 +108,7 @@ along-v-requires c κs =
       rw (h .size)
           (parents-fit (a .w) (a .h) (a .coarse) (turn .before .loop .b) (columns .functions .result)
           (columns .functions .ensures .0) (row turn)),
-      holds-within (a .w) (a .h) (a .rows .now) (a .cs .now) (a .coarse) _ (s .pre .2) (s .pre .5) h,
+      holds-within (a .w) (a .h) (a .rows .now) (a .numbers .now) (a .coarse) _ (s .pre .2) (s .pre .5) h,
     )
 
 fill-row-requires : tie.Need-fill-row-requires Inv-loop μ-loop
@@ -122,7 +122,7 @@ fill-row-requires c κs =
     let from = turn .before .loop .from in
     let count = part-length from n (turn .before .loop .out) (omega (arith, inside turn, same turn)) in (
       omega (arith, count, wide .functions2 .ensures .1),
-      part-length from n (s .args .cs .now) (inside turn) ∙ sym count,
+      part-length from n (s .args .numbers .now) (inside turn) ∙ sym count,
       omega (arith, side .eighths .ensures, eighths-le (s .args .coarse + 1)),
       along .along-v .ensures .small,
     )
@@ -145,7 +145,7 @@ loop-again c =
     rw (columns .functions .ensures .0) at (along .along-v .ensures) in (
       omega (arith, turn .loop-test .taken),
       row-next (loop .b) (wide .functions2 .result) (start (a .w) (a .h) (a .coarse + 1)) (loop .inv .1),
-      row-carried (a .w) (a .h) (a .rows .now) (a .cs .now) (a .coarse) (loop .b) (side .eighths .result)
+      row-carried (a .w) (a .h) (a .rows .now) (a .numbers .now) (a .coarse) (loop .b) (side .eighths .result)
           (marks .region-row .result) _ (along .along-v .result) (side .eighths .ensures) (row turn)
           (marks .region-row .ensures) (coarser turn) sums (wide .functions2 .result) (loop .from) (loop .out)
           (called .fill-row .last .0) (s .pre .2) (wide .functions2 .ensures .0) (loop .inv .1) (s .pre .3)
@@ -164,7 +164,7 @@ returns c =
     let wide = tall .before in
     let a = wide .before .before .before .before .args in
     let next : a .coarse + 1 + 1 ≡ a .coarse + 2 = omega arith in
-    subst (λ k. CarriedTo k (a .w) (a .h) (a .rows .now) (a .cs .now) (loop .out))
+    subst (λ k. CarriedTo k (a .w) (a .h) (a .rows .now) (a .numbers .now) (loop .out))
     (rows-end (a .w) (a .h) (a .coarse + 1) (loop .b) (wide .functions2 .ensures .0) (tall .functions3 .ensures .0)
     (loop .inv .0) (c .loop-test .left) (loop .inv .1) ∙ ap (start (a .w) (a .h)) next) (loop .inv .2)
 

@@ -31,7 +31,7 @@ abbrev μ-loop : tie.MeasureT-loop
 μ-loop cs rows w h v out₀ start at₀ u₀ out at u = w + 1 - u
 
 within : (c : tie.Start Inv-loop μ-loop) → let a = c .args in (0 < a .w) × (a .w ≤ 8) × (0 < a .h) × (a .h ≤ 8)
-within c = sides (sound (c .args .w) (c .args .h) (c .pre .1 .0) (c .args .cs .now) (c .pre .1 .2))
+within c = sides (sound (c .args .w) (c .args .h) (c .pre .1 .0) (c .args .numbers .now) (c .pre .1 .2))
 
 loop-holds : tie.Need-loop-holds Inv-loop μ-loop
 loop-holds c =
@@ -39,7 +39,7 @@ loop-holds c =
       omega arith,
       refl,
       omega arith,
-      λ t e h. put-none (cornerLine (a .w) (a .h) t (a .cs .now) (a .v)) (a .start) (a .out .now),
+      λ t e h. put-none (cornerLine (a .w) (a .h) t (a .numbers .now) (a .v)) (a .start) (a .out .now),
     )
 
 watts-at-requires : tie.Need-watts-at-requires Inv-loop μ-loop
@@ -96,7 +96,7 @@ loop-again c =
       d .line .kept .1 .1 .1 .0 ∙ l .loop .inv .1,
       omega (arith, short w, d .line .ensures .0, l .loop .inv .2),
       λ t e h.
-          put-next (l .loop .u) (cornerLine (a .w) (a .h) t (a .cs .now) (a .v)) text (a .start) (a .out .now)
+          put-next (l .loop .u) (cornerLine (a .w) (a .h) t (a .numbers .now) (a .v)) text (a .start) (a .out .now)
           (l .loop .at) (l .loop .out) (d .line .result) (d .line .last .1 .1 .1 .0) (l .loop .inv .3 t e h)
           (d .line .ensures)
           (ap (line (l .loop .u) (a .v)) (as-held w ∙ w .watts-at .ensures .0 t e h)),
@@ -113,7 +113,7 @@ returns c =
     let all : l .loop .u ≡ a .w + 1 = omega (arith, c .loop-test .left, l .loop .inv .0) in (
       λ t e h.
           subst
-          (λ n. Put (joined n (cornerLine (a .w) (a .h) t (a .cs .now) (a .v))) (a .start) (a .out .now) (l .loop .at)
+          (λ n. Put (joined n (cornerLine (a .w) (a .h) t (a .numbers .now) (a .v))) (a .start) (a .out .now) (l .loop .at)
           (l .loop .out))
           all
           (l .loop .inv .3 t e h),

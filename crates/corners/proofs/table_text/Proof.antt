@@ -36,7 +36,7 @@ abbrev μ-loop : tie.MeasureT-loop
 μ-loop tree cs w h out₀ rows at₀ v₀ out at v = h + 1 - v
 
 within : (c : tie.Start Inv-loop μ-loop) → let a = c .args in (0 < a .w) × (a .w ≤ 8) × (0 < a .h) × (a .h ≤ 8)
-within c = sides (sound (c .args .w) (c .args .h) (c .args .tree .now) (c .args .cs .now) (c .pre .0))
+within c = sides (sound (c .args .w) (c .args .h) (c .args .tree .now) (c .args .numbers .now) (c .pre .0))
 
 regions-requires : tie.Need-regions-requires Inv-loop μ-loop
 regions-requires c κs = let w = within (c .before .before .before) in (w .1, w .3)
@@ -47,7 +47,7 @@ painted : (c : tie.After-regions Inv-loop μ-loop)
 painted c =
     let s = c .before .before .before .before in
     let a = s .args in
-    c .regions .ensures .1 (c .regions .ensures .0 ∙ tree-of (a .w) (a .h) (a .tree .now) (a .cs .now) (s .pre .0))
+    c .regions .ensures .1 (c .regions .ensures .0 ∙ tree-of (a .w) (a .h) (a .tree .now) (a .numbers .now) (s .pre .0))
 
 header-requires : tie.Need-header-requires Inv-loop μ-loop
 header-requires c κs = omega (arith, c .before .before .before .before .before .pre .1)
@@ -59,7 +59,7 @@ loop-holds c =
       omega arith,
       refl,
       omega arith,
-      put-none (λ v. joined (a .w + 1) (cornerLine (a .w) (a .h) (a .tree .now) (a .cs .now) v)) (h .header .result)
+      put-none (λ v. joined (a .w + 1) (cornerLine (a .w) (a .h) (a .tree .now) (a .numbers .now) v)) (h .header .result)
           (h .header .last .0),
     )
 
@@ -101,7 +101,7 @@ loop-again c =
     let p = h .before .before in
     let s = p .before .before .before .before in
     let a = s .args in
-    let rows : ℕ → List ℕ = λ v. joined (a .w + 1) (cornerLine (a .w) (a .h) (a .tree .now) (a .cs .now) v) in (
+    let rows : ℕ → List ℕ = λ v. joined (a .w + 1) (cornerLine (a .w) (a .h) (a .tree .now) (a .numbers .now) v) in (
       omega (arith, turn .loop-test .taken),
       d .row .kept .1 .1 .1 .1 .1 .0 ∙ l .loop .inv .1,
       omega (arith, d .row .ensures .1, l .loop .inv .2),
@@ -120,12 +120,12 @@ returns c =
     let h = l .before .before .before in
     let s = h .before .before .before .before .before .before in
     let a = s .args in
-    let rows : ℕ → List ℕ = λ v. joined (a .w + 1) (cornerLine (a .w) (a .h) (a .tree .now) (a .cs .now) v) in
+    let rows : ℕ → List ℕ = λ v. joined (a .w + 1) (cornerLine (a .w) (a .h) (a .tree .now) (a .numbers .now) v) in
     let all : l .loop .v ≡ a .h + 1 = omega (arith, c .loop-test .left, l .loop .inv .0) in
     let r = h .header .result in
     let o = h .header .last .0 in
     let put = subst (λ n. Put (joined n rows) r o (l .loop .at) (l .loop .out)) all (l .loop .inv .3) in (
-      rw (← table-parts (a .w) (a .h) (a .tree .now) (a .cs .now))
+      rw (← table-parts (a .w) (a .h) (a .tree .now) (a .numbers .now))
           (put-both header (joined (a .h + 1) rows) 0 (a .out .now) r o (l .loop .at) (l .loop .out)
           (h .header .ensures) put),
       omega (arith, within s, l .loop .inv .2, h .header .ensures .0),

@@ -11,7 +11,7 @@ use Rattle.corners.proofs.watts_at.Statement.{statement}
 use Rattle.corners.proofs.watts_at.Tie as tie
 
 within : (c : tie.Start) → let a = c .args in (0 < a .w) × (a .w ≤ 8) × (0 < a .h) × (a .h ≤ 8)
-within c = sides (sound (c .args .w) (c .args .h) (c .pre .2 .0) (c .args .cs .now) (c .pre .2 .2))
+within c = sides (sound (c .args .w) (c .args .h) (c .pre .2 .0) (c .args .numbers .now) (c .pre .2 .2))
 
 mul-reading-at : tie.Need-mul-reading-at
 mul-reading-at c = omega (arith, within c)

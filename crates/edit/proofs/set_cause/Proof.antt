@@ -27,7 +27,7 @@ returns c = first (c .before .check .ensures .0) (c .if1 .taken) _
 
 -- past the first five causes
 none : (c : tie.Else1)
-    → let a = c .before .before .before .before .args in 0 ≡ tableCause (a .w) (a .h) (a .t .now) (a .cs .now)
+    → let a = c .before .before .before .before .args in 0 ≡ tableCause (a .w) (a .h) (a .t .now) (a .numbers .now)
 none c = sym (c .if1 .left) ∙ c .before .check .ensures .0
 
 -- the rows are those of the tree's levels
@@ -43,7 +43,7 @@ settable-requires : tie.Need-settable-requires
 settable-requires c κs =
     let d = c .before .before in
     let a = d .before .before .before .before .args in
-    let f = table-none (a .w) (a .h) (a .t .now) (a .cs .now) (none d) in
+    let f = table-none (a .w) (a .h) (a .t .now) (a .numbers .now) (none d) in
     (f .1, f .3, c .before .if2 .left, rw (painted d) (rows-nested (levels (a .t .now))))
 
 -- past cause 8, by the test of the function
@@ -59,7 +59,7 @@ may-set c =
     let start = checked .before .before .before in
     let a = start .args in
     let rows = checked .check .last .1 .1 .1 .1 .0 in
-    let few = table-none (a .w) (a .h) (a .t .now) (a .cs .now) (none (level .before)) in
+    let few = table-none (a .w) (a .h) (a .t .now) (a .numbers .now) (none (level .before)) in
     let fit : ℤ → ℤ → Bool = λ i j. indexFits (a .w) (a .level) i && indexFits (a .h) (a .level) j
     && active (a .w) (a .h) (levelsOf rows) (a .level) (index i) (index j) in
     c .settable .ensures
@@ -72,7 +72,7 @@ may-set c =
 by : {k : ℕ} (c : tie.After-settable)
     → let a = c .before .before .before .before .before .before .before .args in
     k ≡ (cause 9 (not (c .settable .result)) orElse cause 10 (ltb (limit (a .level)) (natAbs (a .number))))
-    → k ≡ setCause (a .w) (a .h) (a .t .now) (a .cs .now) (a .level) (a .i) (a .j) (a .number)
+    → k ≡ setCause (a .w) (a .h) (a .t .now) (a .numbers .now) (a .level) (a .i) (a .j) (a .number)
 unfolding setCause
 by c e =
     let level = c .before .before in

@@ -44,7 +44,7 @@ row c = subst (λ k. c .before .loop .b < k) (c .before .before .before .functio
 
 inside : (c : tie.In-loop Inv-loop μ-loop)
     → let columns = c .before .before .before .before in
-    c .before .loop .from + columns .functions .result ≤ length (columns .before .before .args .cs .now)
+    c .before .loop .from + columns .functions .result ≤ length (columns .before .before .args .numbers .now)
 inside c =
     let columns = c .before .before .before .before in
     let s = columns .before .before in
@@ -70,7 +70,7 @@ of-row-requires c κs =
       s .pre .2,
       row turn,
       s .pre .4,
-      part-length (turn .before .loop .from) n (s .args .cs .now) (inside turn) ∙ columns .functions .ensures .0,
+      part-length (turn .before .loop .from) n (s .args .numbers .now) (inside turn) ∙ columns .functions .ensures .0,
       (limit (s .args .level), bound lim, limit-below (s .args .level) (s .pre .2)),
     )
 
@@ -84,7 +84,7 @@ loop-again c =
     let a = columns .before .before .args in
     let n = columns .functions .result in
     let faults = found .of-row .ensures (limit (a .level)) (bound lim) in
-    let holds = row-holds (a .w) (a .h) (a .level) (loop .b) n (loop .from) (a .cs .now) (levelsOf (a .rows .now))
+    let holds = row-holds (a .w) (a .h) (a .level) (loop .b) n (loop .from) (a .numbers .now) (levelsOf (a .rows .now))
     (columns .functions .ensures .0) (loop .inv .1) (inside turn) in (
       omega (arith, turn .loop-test .taken),
       row-next (loop .b) n (start (a .w) (a .h) (a .level)) (loop .inv .1),
@@ -98,7 +98,7 @@ returns c =
     let tall = c .before .before .before in
     let a = tall .before .before .before .args in
     let last : loop .b ≡ tall .functions2 .result = omega (arith, c .loop-test .left, loop .inv .0) in
-    let whole = rows-done (a .w) (a .h) (levelsOf (a .rows .now)) (a .cs .now) (a .level) (loop .b)
+    let whole = rows-done (a .w) (a .h) (levelsOf (a .rows .now)) (a .numbers .now) (a .level) (loop .b)
     (last ∙ tall .functions2 .ensures .0) in
     record { limited = loop .inv .2 ∙ whole limits; zeroed = loop .inv .3 ∙ whole zeros }
 

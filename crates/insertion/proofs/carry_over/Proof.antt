@@ -25,10 +25,10 @@ returns : tie.Need-returns
 returns c =
     let filled = c .before .before .before .before in
     let a = filled .before .before .args in
-    let old = carried (a .w) (a .h) (levelsOf (a .rows .now)) (coefficients (a .w) (a .h) (a .cs .now)) in
+    let old = carried (a .w) (a .h) (levelsOf (a .rows .now)) (coefficients (a .w) (a .h) (a .numbers .now)) in
     c .before .clear .ensures
     ∙ slice-cong (a .w) (a .h) (cleared (a .w) (a .h) (a .new .now) _)
-    (overRows (a .w) (a .h) (a .rows .now) (a .new .now) (a .cs .now))
+    (overRows (a .w) (a .h) (a .rows .now) (a .new .now) (a .numbers .now))
     λ L x y hL hx hy. ap (λ z. cond (active (a .w) (a .h) (levelsOf (a .new .now)) L x y) z (pos 0))
     (ap (λ s. coefficients (a .w) (a .h) s L x y) (filled .fill .ensures)
     ∙ slice-coefficient (a .w) (a .h) old L x y hL hx hy)

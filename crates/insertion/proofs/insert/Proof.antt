@@ -35,7 +35,7 @@ start c = c .before .before .before .before .before
 none : (c : tie.Else1)
     → let s = start c in
     let a = s .args in
-    0 ≡ refinementCause (a .w) (a .h) (a .tree .now) (a .cs .now) (boxAt s) (a .level)
+    0 ≡ refinementCause (a .w) (a .h) (a .tree .now) (a .numbers .now) (boxAt s) (a .level)
 none c = sym (c .if1 .left) ∙ c .before .refinement-cause .ensures .0
 
 painted : (c : tie.Else1)
@@ -43,11 +43,11 @@ painted : (c : tie.Else1)
 painted c = c .before .refinement-cause .ensures .1 (c .if1 .left)
 
 -- so the table is acceptable and the level at most 3
-fit : (c : tie.Else1) → let a = start c .args in Sound (a .w) (a .h) (a .tree .now) (a .cs .now) × (a .level ≤ 3)
+fit : (c : tie.Else1) → let a = start c .args in Sound (a .w) (a .h) (a .tree .now) (a .numbers .now) × (a .level ≤ 3)
 fit c =
     let a = start c .args in
-    let none = accepted (a .w) (a .h) (a .tree .now) (a .cs .now) (boxAt (start c)) (a .level) (sym (none c)) in
-    (sound (a .w) (a .h) (a .tree .now) (a .cs .now) (none .0), none .3)
+    let none = accepted (a .w) (a .h) (a .tree .now) (a .numbers .now) (boxAt (start c)) (a .level) (sym (none c)) in
+    (sound (a .w) (a .h) (a .tree .now) (a .numbers .now) (none .0), none .3)
 
 insert-requires : tie.Need-insert-requires
 insert-requires c κs =
@@ -68,7 +68,7 @@ write-refined-requires c κs =
       table .size,
       old-nested t _ (painted e),
       up .insert .ensures .nested,
-      carried-fit t _ (painted e) (a .w) (a .h) (n .1) (n .3) (a .cs .now) table,
+      carried-fit t _ (painted e) (a .w) (a .h) (n .1) (n .3) (a .numbers .now) table,
     )
 
 returns-2 : tie.Need-returns-2
@@ -83,7 +83,7 @@ returns-2 c =
     (λ o. TableMeets o (lengthAnswer (done .write-refined .result)) (done .write-refined .last .1 .1 .1 .1 .1 .1 .0)
     (done .write-refined .last .1 .1 .1 .1 .1 .1 .1 .0))
     (refined-insertion (a .tree .now) _ (painted e) (boxAt s) (a .level) (up .insert .ensures) (a .w) (a .h) (n .1)
-    (n .3) (a .cs .now) _ (a .tree-out .now) (a .numbers-out .now)
+    (n .3) (a .numbers .now) _ (a .tree-out .now) (a .numbers-out .now)
     (ap (λ k. take k (up .insert .last .1 .1 .1 .0)) (sub-zero (up .insert .result))) (none e))
     (done .write-refined .ensures)
 

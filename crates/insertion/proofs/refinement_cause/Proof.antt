@@ -17,13 +17,13 @@ returns c = (first (c .before .check .ensures .0) (c .if1 .taken) _, λ e. absur
 
 -- past the causes of the table
 table-none : (c : tie.Else1)
-    → let a = c .before .before .before .before .args in 0 ≡ tableCause (a .w) (a .h) (a .tree .now) (a .cs .now)
+    → let a = c .before .before .before .before .args in 0 ≡ tableCause (a .w) (a .h) (a .tree .now) (a .numbers .now)
 table-none c = sym (c .if1 .left) ∙ c .before .check .ensures .0
 
 box-cause-requires : tie.Need-box-cause-requires
 box-cause-requires c κs =
     let a = c .before .before .before .before .args in
-    let s = sides (sound (a .w) (a .h) (a .tree .now) (a .cs .now) (sym (table-none c))) in
+    let s = sides (sound (a .w) (a .h) (a .tree .now) (a .numbers .now) (sym (table-none c))) in
     (s .1, s .3)
 
 returns-2 : tie.Need-returns-2

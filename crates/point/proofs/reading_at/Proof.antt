@@ -17,8 +17,8 @@ use Rattle.point.proofs.reading_at.Tie as tie
 ready : (s : tie.Start)
     → let a = s .args in
     (0 < a .w) × (a .w ≤ 8) × (0 < a .h) × (a .h ≤ 8) × (a .u ≤ 128 * a .w) × (a .v ≤ 128 * a .h)
-    × (length (a .cs .now) ≡ slots (a .w) (a .h))
-ready s = let a = s .args in point-ready (a .w) (a .h) (a .rows .now) (a .cs .now) (a .u) (a .v) (s .pre)
+    × (length (a .numbers .now) ≡ slots (a .w) (a .h))
+ready s = let a = s .args in point-ready (a .w) (a .h) (a .rows .now) (a .numbers .now) (a .u) (a .v) (s .pre)
 
 coarsest-requires : tie.Need-coarsest-requires
 coarsest-requires c κs = ready c
@@ -26,21 +26,21 @@ coarsest-requires c κs = ready c
 finer-requires : tie.Need-finer-requires
 finer-requires c κs =
     let a = c .before .args in
-    finer-ready (a .w) (a .h) (a .rows .now) (a .cs .now) (a .u) (a .v) (c .before .pre) 1 (c .coarsest .result)
+    finer-ready (a .w) (a .h) (a .rows .now) (a .numbers .now) (a .u) (a .v) (c .before .pre) 1 (c .coarsest .result)
     (lit< tt) (lit≤ tt) (c .coarsest .ensures (a .rows .now))
 
 finer-requires-2 : tie.Need-finer-requires-2
 finer-requires-2 c κs =
     let s = c .before .before in
     let a = s .args in
-    finer-ready (a .w) (a .h) (a .rows .now) (a .cs .now) (a .u) (a .v) (s .pre) 2 (c .finer .result) (lit< tt)
+    finer-ready (a .w) (a .h) (a .rows .now) (a .numbers .now) (a .u) (a .v) (s .pre) 2 (c .finer .result) (lit< tt)
     (lit≤ tt) (c .finer .ensures)
 
 finer-requires-3 : tie.Need-finer-requires-3
 finer-requires-3 c κs =
     let s = c .before .before .before in
     let a = s .args in
-    finer-ready (a .w) (a .h) (a .rows .now) (a .cs .now) (a .u) (a .v) (s .pre) 3 (c .finer2 .result) (lit< tt)
+    finer-ready (a .w) (a .h) (a .rows .now) (a .numbers .now) (a .u) (a .v) (s .pre) 3 (c .finer2 .result) (lit< tt)
     (lit≤ tt) (c .finer2 .ensures)
 
 cell-of-requires : tie.Need-cell-of-requires
@@ -87,7 +87,7 @@ evaluate-requires c κs =
     let d = c .before .before in
     let s = d .before .before .before .before in
     let a = s .args in
-    let b = patch-bounded (a .w) (a .h) (a .rows .now) (a .cs .now) (a .u) (a .v) (s .pre) 3 (limit 3)
+    let b = patch-bounded (a .w) (a .h) (a .rows .now) (a .numbers .now) (a .u) (a .v) (s .pre) 3 (limit 3)
     (d .finer3 .result) (lit< tt) (lit≤ tt) (d .finer3 .ensures) in
     (omega (arith, left-u c .1), omega (arith, left-v c .1), (3, lit< tt, refl, b))
 
@@ -98,7 +98,7 @@ returns c = λ t painted acc.
     let s = d .before .before .before .before in
     let a = s .args in
     toZ-ofZ w64 (c .evaluate .result) (sfits-of (c .evaluate .ok))
-    ∙ reading-of (a .w) (a .h) (a .rows .now) (a .cs .now) (a .u) (a .v) (s .pre .0, s .pre .1, (t, painted, acc))
+    ∙ reading-of (a .w) (a .h) (a .rows .now) (a .numbers .now) (a .u) (a .v) (s .pre .0, s .pre .1, (t, painted, acc))
     (cells .before .cell-of .result) (cells .cell-of2 .result) (d .finer3 .result) (c .evaluate .result)
     (cells .before .cell-of .ensures .0) (cells .cell-of2 .ensures .0) (d .finer3 .ensures) (c .evaluate .ensures)
 

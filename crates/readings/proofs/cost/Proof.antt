@@ -14,7 +14,7 @@ returns : tie.Need-returns
 returns c =
     let k = c .before .before in
     let a = k .before .before .before .before .args in
-    tariff-refused (a .w) (a .h) (a .tree .now) (a .cs .now) (a .u) (a .v) (k .r .given .0 .0)
+    tariff-refused (a .w) (a .h) (a .tree .now) (a .numbers .now) (a .u) (a .v) (k .r .given .0 .0)
     (ap exactAnswer (sym (k .r .given .1)) ∙ k .before .before .exact .ensures) (a .tariff) (c .if1 .taken)
 
 returns-2 : tie.Need-returns-2
@@ -27,7 +27,7 @@ returns-2 c =
     toZ-ofZ w64 rounded (sfits-of (c .before .whole-watts .ok))
     ∙ c .before .whole-watts .ensures .0
     ∙ ap wholeWatts (toZ-ofZ w64 n (sfits-of (c .before .before .before .known-told .given .0 .1))) in
-    cost-given (a .w) (a .h) (a .tree .now) (a .cs .now) (a .u) (a .v) n
+    cost-given (a .w) (a .h) (a .tree .now) (a .numbers .now) (a .u) (a .v) n
     (ap exactAnswer (sym (k .r .given .1)) ∙ k .before .before .exact .ensures) (a .tariff) (c .cost-of .result)
     (c .before .before .if1 .left)
     (c .cost-of .ensures ∙ ap (λ w. costOf w (a .tariff)) same)
@@ -36,7 +36,7 @@ returns-3 : tie.Need-returns-3
 returns-3 c =
     let k = c .before in
     let a = k .before .before .before .before .args in
-    cost-refused (a .w) (a .h) (a .tree .now) (a .cs .now) (a .u) (a .v) (k .r2 .given .0 .0)
+    cost-refused (a .w) (a .h) (a .tree .now) (a .numbers .now) (a .u) (a .v) (k .r2 .given .0 .0)
     (ap exactAnswer (sym (k .r2 .given .1)) ∙ k .before .before .exact .ensures) (a .tariff)
 
 pub cost-spec : {M : Type 1} → statement M

@@ -21,14 +21,14 @@ returns c =
     ∙ c .whole-watts .ensures .0
     ∙ ap wholeWatts (toZ-ofZ w64 n (sfits-of (c .before .known-told .given .0 .1))) in
     ap gives same
-    ∙ display-given (a .w) (a .h) (a .tree .now) (a .cs .now) (a .u) (a .v) n
+    ∙ display-given (a .w) (a .h) (a .tree .now) (a .numbers .now) (a .u) (a .v) n
     (ap exactAnswer (sym (k .r .given .1)) ∙ k .before .before .exact .ensures)
 
 returns-2 : tie.Need-returns-2
 returns-2 c =
     let k = c .before in
     let a = k .before .before .before .before .args in
-    display-refused (a .w) (a .h) (a .tree .now) (a .cs .now) (a .u) (a .v) (k .r2 .given .0 .0)
+    display-refused (a .w) (a .h) (a .tree .now) (a .numbers .now) (a .u) (a .v) (k .r2 .given .0 .0)
     (ap exactAnswer (sym (k .r2 .given .1)) ∙ k .before .before .exact .ensures)
 
 pub display-spec : {M : Type 1} → statement M

@@ -21,14 +21,14 @@ returns c = refused-with (first (c .before .check .ensures .0) (c .if1 .taken) _
 
 -- an acceptable table
 none : (c : tie.Else1)
-    → let a = c .before .before .before .before .args in 0 ≡ tableCause (a .w) (a .h) (a .tree .now) (a .cs .now)
+    → let a = c .before .before .before .before .args in 0 ≡ tableCause (a .w) (a .h) (a .tree .now) (a .numbers .now)
 none c = sym (c .if1 .left) ∙ c .before .check .ensures .0
 
 within : (c : tie.Else1)
     → let a = c .before .before .before .before .args in (0 < a .w) × (a .w ≤ 8) × (0 < a .h) × (a .h ≤ 8)
 within c =
     let a = c .before .before .before .before .args in
-    sides (sound (a .w) (a .h) (a .tree .now) (a .cs .now) (sym (none c)))
+    sides (sound (a .w) (a .h) (a .tree .now) (a .numbers .now) (sym (none c)))
 
 mul-if2 : tie.Need-mul-if2
 mul-if2 c = omega (arith, within c)

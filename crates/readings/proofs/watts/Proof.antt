@@ -15,7 +15,7 @@ returns : tie.Need-returns
 returns c =
     let k = c .before .before in
     let a = k .before .before .before .before .args in
-    watts-given (a .w) (a .h) (a .tree .now) (a .cs .now) (a .u) (a .v) (k .r .given .0 .0)
+    watts-given (a .w) (a .h) (a .tree .now) (a .numbers .now) (a .u) (a .v) (k .r .given .0 .0)
     (ap exactAnswer (sym (k .r .given .1)) ∙ k .before .before .exact .ensures)
     (c .watts .result)
     (subst (λ z. Near (2 ^ 30) D z (c .watts .result))
@@ -26,7 +26,7 @@ returns-2 : tie.Need-returns-2
 returns-2 c =
     let k = c .before in
     let a = k .before .before .before .before .args in
-    watts-refused (a .w) (a .h) (a .tree .now) (a .cs .now) (a .u) (a .v) (k .r2 .given .0 .0)
+    watts-refused (a .w) (a .h) (a .tree .now) (a .numbers .now) (a .u) (a .v) (k .r2 .given .0 .0)
     (ap exactAnswer (sym (k .r2 .given .1)) ∙ k .before .before .exact .ensures)
 
 pub watts-spec : {M : Type 1} → statement M

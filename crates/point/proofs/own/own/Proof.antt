@@ -12,7 +12,7 @@ use Rattle.point.proofs.own.own.Tie as tie
 
 -- the level's part is inside the slice
 inside : (c : tie.After-places)
-    → c .before .start .result + c .places .result ≤ length (c .before .before .before .args .cs .now)
+    → c .before .start .result + c .places .result ≤ length (c .before .before .before .args .numbers .now)
 inside c =
     let s = c .before .before .before in
     rw (s .pre .5)
@@ -28,7 +28,7 @@ in-part-requires c κs =
     let s = d .before .before .before in
     let a = s .args in
     let n = d .before .before .functions in
-    let size = part-length (d .before .start .result) (d .places .result) (a .cs .now) (inside d) in (
+    let size = part-length (d .before .start .result) (d .places .result) (a .numbers .now) (inside d) in (
       omega (arith, n .ensures .0),
       n .ensures .1,
       omega (arith, functions-le (a .h) (a .level) (s .pre .1) (s .pre .2)),
@@ -43,7 +43,7 @@ returns c = λ k l hk hl.
     let a = s .args in
     c .in-part .ensures k l hk hl
     ∙ level-own (a .w) (a .h) (a .level) (d .before .start .result) (d .places .result)
-    (d .before .before .functions .result) (a .a) (a .b) (a .cs .now) (d .before .start .ensures .0)
+    (d .before .before .functions .result) (a .a) (a .b) (a .numbers .now) (d .before .start .ensures .0)
     (d .places .ensures .0) (d .before .before .functions .ensures .0) (s .pre .3) (s .pre .4) k l hk hl
 
 pub own-spec : {M : Type 1} → statement M

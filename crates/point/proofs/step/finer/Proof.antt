@@ -19,7 +19,7 @@ returns c = λ k l hk hl.
     let s = cells .before .before in
     let a = s .args in
     c .choose-all .ensures k l hk hl
-    ∙ next-entry (a .w) (a .h) (levelsOf (a .rows .now)) (coefficients (a .w) (a .h) (a .cs .now)) (a .u) (a .v)
+    ∙ next-entry (a .w) (a .h) (levelsOf (a .rows .now)) (coefficients (a .w) (a .h) (a .numbers .now)) (a .u) (a .v)
     (a .level - 1) (a .level) k l (omega arith) (entry (a .p)) (cells .before .cell-of .result)
     (cells .cell-of2 .result) _ hk hl (cells .before .cell-of .ensures .0) (cells .cell-of2 .ensures .0)
     (s .pre .10) (near .near-region .ensures k l hk hl) (own .own .ensures k l hk hl)

@@ -15,7 +15,7 @@ use Rattle.table.proofs.cause.check.Tie as tie
 returns : tie.Need-returns
 returns c =
     let a = c .before .before .before .before .args in (
-      table-region (a .w) (a .h) (a .t .now) (a .cs .now) (c .before .region-cause .result)
+      table-region (a .w) (a .h) (a .t .now) (a .numbers .now) (c .before .region-cause .result)
           (c .before .region-cause .ensures .0) (c .if1 .taken),
       λ e. absurd (c .if1 .taken e),
     )
@@ -35,7 +35,7 @@ returns-2 : tie.Need-returns-2
 returns-2 c =
     let d = c .before .before in
     let a = d .before .before .before .before .args in
-    let cs = a .cs .now in
+    let cs = a .numbers .now in
     let other : length cs ≡ slots (a .w) (a .h) → ⊥ = λ e. c .if2 .taken (e ∙ sym (c .before .start .ensures .0)) in (
       table-by (a .w) (a .h) (a .t .now) cs false _ _ (none d) (sym (ne-eqb (length cs) (slots (a .w) (a .h)) other))
           refl refl,
@@ -44,7 +44,7 @@ returns-2 c =
 
 -- past the third
 size : (c : tie.Else2)
-    → let a = c .before .before .before .before .before .before .args in length (a .cs .now) ≡ slots (a .w) (a .h)
+    → let a = c .before .before .before .before .before .before .args in length (a .numbers .now) ≡ slots (a .w) (a .h)
 size c = c .if2 .left ∙ c .before .start .ensures .0
 
 -- the rows are those of the tree's levels
@@ -64,13 +64,13 @@ of-table-requires c κs =
 flagged : (c : tie.After-of-table) (l z : Bool) → c .of-table .result .over ≡ not l
     → c .of-table .result .stray ≡ not z
     → let a = c .before .before .before .before .before .before .before .before .args in
-    table 0 true l z ≡ tableCause (a .w) (a .h) (a .t .now) (a .cs .now)
+    table 0 true l z ≡ tableCause (a .w) (a .h) (a .t .now) (a .numbers .now)
 flagged c l z over stray =
     let e = c .before .before in
     let d = e .before .before in
     let rows = d .before .region-cause .last .1 .1 .1 .0 in
     let a = d .before .before .before .before .args in
-    let cs = a .cs .now in
+    let cs = a .numbers .now in
     let t = a .t .now in
     let sides = region-none (a .w) (a .h) t (none d) in
     table-by (a .w) (a .h) t cs true l z (none d) (sym (eq-eqb (length cs) (slots (a .w) (a .h)) (size e)))
