@@ -16,7 +16,7 @@ use Rattle.surface.specs.Table.{Acceptable}
 use Rattle.surface.specs.Calls.{wholeWatts}
 use Rattle.surface.specs.Fields.{field}
 use Rattle.surface.specs.TableFile.{sidesField, fileContents}
-use Rattle.surface.specs.Bench.{S, flat}
+use Rattle.bench.specs.Bench.{S, flat}
 use Rattle.surface.proofs.PatchReading.{patch-reading}
 use Rattle.tablefile.proofs.LongLaws.{cut-contents}
 use Rattle.tablefile.proofs.Saved.{saved-loads}

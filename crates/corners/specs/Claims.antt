@@ -4,7 +4,7 @@ use mathlib.Core.List.{List, [], _∷_, _++_}
 use Prim.Native.Nat.{ℕ, _≤_}
 use lib.ListN.{take}
 use Rattle.io.specs.Digits.{digits, Fewest}
-use Rattle.surface.specs.Bench.{S, flat}
+use Rattle.bench.specs.Bench.{S, flat}
 use Rattle.surface.specs.TableFile.{fileOf}
 use Rattle.text.specs.Text.{decimal, header}
 use Rattle.corners.specs.Text.{cornerText}

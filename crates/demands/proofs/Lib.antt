@@ -1,3 +1,2 @@
 pub mod Theorem
 pub mod LinkedDemandThree
-pub mod LinkedBench

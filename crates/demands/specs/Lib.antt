@@ -2,4 +2,3 @@ pub mod Promises
 pub mod DemandThree
 pub mod LinkedPromises
 pub mod LinkedDemandThree
-pub mod LinkedBench

@@ -2,7 +2,7 @@
 use mathlib.Core.Path.{_≡_, refl}
 use mathlib.Core.Bool.{_&&_, cond}
 use mathlib.Core.List.{[], _∷_}
-use Prim.Native.Nat.{ℕ, _*_, _^_}
+use Prim.Native.Nat.{ℕ, _+_, _*_, _^_}
 use lib.IntN.{pos, negℤ, _-ℤ_}
 use lib.Dec.{leb, ltb}
 use lib.ListN.{replicate}
@@ -13,6 +13,7 @@ use Rattle.surface.specs.Support.{leastUnder, active}
 use Rattle.surface.specs.Spline.{cellOf, piece, splineAt}
 use Rattle.surface.specs.Truncation.{weight, truncated}
 use Rattle.surface.specs.Carry.{raised, carried}
+use Rattle.surface.specs.Calls.{wholeWatts}
 
 -- ---- the far edge
 
@@ -76,3 +77,13 @@ corner-tree = refl
 pub visited-corner : visits corner 3 0 0 (split (leaf 1) (leaf 0) (leaf 0) (leaf 0)) ≡ 2
 unfolding visits
 visited-corner = refl
+
+-- ---- rounding
+
+-- "halves upward, also below zero (−0.5 gives 0)": −1.5 gives −1, what lies below it −2, and a half 1
+pub rounded : (wholeWatts (negℤ (pos (18 * 2 ^ 42))) ≡ pos 0)
+    × (wholeWatts (negℤ (pos (54 * 2 ^ 42))) ≡ negℤ (pos 1))
+    × (wholeWatts (negℤ (pos (54 * 2 ^ 42 + 1))) ≡ negℤ (pos 2))
+    × (wholeWatts (pos (18 * 2 ^ 42)) ≡ pos 1)
+unfolding wholeWatts
+rounded = (refl, refl, refl, refl)

@@ -26,6 +26,3 @@ pub mod Steps
 pub mod Refusals
 pub mod Writers
 pub mod Demands
-pub mod BenchLaws
-pub mod Bench
-pub mod Unrefined

@@ -11,6 +11,3 @@ pub mod FloatReading
 pub mod Fields
 pub mod TableFile
 pub mod Demands
-pub mod Bench
-pub mod Cases
-pub mod Computed

@@ -5,13 +5,13 @@ use mathlib.Core.List.{List, [], _∷_, _++_}
 use Prim.Native.Nat.{ℕ, _+_, _*_, _^_, _%_}
 use lib.IntN.{ℤ, pos, negℤ}
 use lib.ListN.{length, replicate, take}
 use Rattle.surface.specs.Quadtree.{bytes, regionTree}
 use Rattle.surface.specs.Table.{levels, coefficients, tableCause}
 use Rattle.surface.specs.Patch.{patchReading}
 use Rattle.surface.specs.Calls.{refused, gives, freshOutcome, insertOutcome, setOutcome, activityOutcome}
-use Rattle.surface.specs.Calls.{leastOutcome, exactOutcome, displayOutcome, costOutcome, wholeWatts, costOf}
+use Rattle.surface.specs.Calls.{leastOutcome, exactOutcome, displayOutcome, costOutcome, costOf}
 use Rattle.surface.specs.TableFile.{fileOutcome}
-use Rattle.surface.specs.Bench.{rows, zeros, S, flat, flat700, box, refined}
+use Rattle.bench.specs.Bench.{rows, zeros, S, flat, flat700, box, refined}
 
 -- ---- readings
 
@@ -139,14 +139,6 @@ LowestGiven =
     × (activityOutcome 1 1 (1 ∷ []) 4 [] .result ≡ refused 2)
 
 -- ---- roundings
-
--- "halves upward, also below zero (−0.5 gives 0)"; −1.5 gives −1
-abbrev pub Rounded : Type 0
-Rounded =
-    (wholeWatts (negℤ (pos (18 * 2 ^ 42))) ≡ pos 0)
-    × (wholeWatts (negℤ (pos (54 * 2 ^ 42))) ≡ negℤ (pos 1))
-    × (wholeWatts (negℤ (pos (54 * 2 ^ 42 + 1))) ≡ negℤ (pos 2))
-    × (wholeWatts (pos (18 * 2 ^ 42)) ≡ pos 1)
 
 -- "tariff 1,499 costs 1, tariff 1,500 costs 2", of 1 watt; "0 for watts of 0 or less"
 abbrev pub Costs : Type 0

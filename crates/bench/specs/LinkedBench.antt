@@ -5,10 +5,10 @@ use Prim.Native.Nat.{ℕ}
 use lib.IntN.{ℤ, pos}
 use lib.ListN.{replicate}
 use Rattle.surface.specs.Demands.{Contents}
-use Rattle.surface.specs.Bench.{S, carriedS, flat, box, refined}
+use Rattle.bench.specs.Bench.{S, carriedS, flat, box, refined}
 use Rattle.demands.specs.DemandThree.{Kept, standing}
 use Rattle.demands.specs.LinkedPromises.{KilnExactPromise}
 use Rattle.demands.specs.LinkedDemandThree.{LinkedInsert, LinkedMade, kilnInsert, LinkedAsPromised, leftByLinked}
 
 -- "Box 0,0 to 5,4 gives 7": the length parameter and both outputs, of no use to this call, stay as they were.
 abbrev pub pastTheSheet : LinkedInsert

@@ -8,15 +8,15 @@ use lib.IntN.{pos}
 use lib.Dec.{leb, lit<}
 use borrow.Author.Tests.{not-true, lt-leb}
 use Rattle.finite.specs.Range.{every, least}
 use Rattle.surface.specs.Sheet.{eighths}
 use Rattle.surface.specs.Quadtree.{parse, levelAt}
 use Rattle.surface.specs.Support.{leastUnder, inRegion}
 use Rattle.surface.specs.Spline.{splineAt}
 use Rattle.surface.specs.Truncation.{truncated}
 use Rattle.surface.specs.Table.{levels, everywhere}
-use Rattle.surface.specs.Bench.{flat, refined}
+use Rattle.bench.specs.Bench.{flat, refined}
 use Rattle.surface.proofs.TableLaws.{everywhere-true}
 use Rattle.surface.proofs.Demands.{not-truncated}
 
 -- What Untruncated asks of a table, as a test on 1 by 1: no function finer than L has its cut support in the region of
 -- its level.

@@ -5,15 +5,15 @@ use lib.IntN.{pos}
 use Rattle.surface.specs.Table.{Acceptable}
 use Rattle.surface.specs.Calls.{insertCause, insertOutcome}
 use Rattle.surface.specs.Demands.{Contents}
-use Rattle.surface.specs.Bench.{S, carriedS, flat, refined}
-use Rattle.surface.proofs.Bench.{bench-sheet}
+use Rattle.bench.specs.Bench.{S, carriedS, flat, refined}
+use Rattle.bench.proofs.Bench.{bench-sheet}
 use Rattle.surface.proofs.Demands.{reading-given}
 use Rattle.demands.specs.DemandThree.{Kept, standing}
 use Rattle.answers.specs.Codes.{TableWritten}
 use Rattle.demands.specs.LinkedDemandThree.{kilnInsert, LinkedAsPromised, leftByLinked}
-use Rattle.demands.specs.LinkedBench.{tableS, pastTheSheet, wholeSheet, benchCalls, bench-left, LinkedBench}
+use Rattle.bench.specs.LinkedBench.{tableS, pastTheSheet, wholeSheet, benchCalls, bench-left, LinkedBench}
 use Rattle.answers.proofs.CodeLaws.{number-given}
 use Rattle.demands.proofs.LinkedDemandThree.{linked-demand-three}
 
 -- the box past the sheet is refused on every acceptable table
 past : (c : Contents) → Acceptable 1 1 (c .tree) (c .numbers) → LinkedAsPromised 1 1 c (kilnInsert pastTheSheet)

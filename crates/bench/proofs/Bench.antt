@@ -15,29 +15,29 @@ use Rattle.finite.specs.Range.{sum, every, least, tableFrom, rowsFrom, total, c
 use Rattle.finite.proofs.Order.{scale-reflects, ≤ℤ-antisym}
 use Rattle.finite.proofs.Table.{grid-cong, grid-const}
 use Rattle.finite.proofs.Tests.{total-cong, count-cong}
 use Rattle.surface.specs.Sheet.{goodSide, functions, eighths, onSheet}
 use Rattle.surface.specs.Quadtree.{parse, wellFormed, levelAt, visits}
 use Rattle.surface.specs.Support.{shares, leastUnder, active, activeInRow, activeCount}
 use Rattle.surface.specs.Spline.{cellOf, piece}
 use Rattle.surface.specs.Truncation.{D}
 use Rattle.surface.specs.Patch.{patch, patchReading}
 use Rattle.surface.specs.Table.{levels, places, start, coefficients, withinLimits, passiveZero}
 use Rattle.surface.specs.Table.{regionCause, cause, tableCause, Acceptable, tableReading}
 use Rattle.surface.specs.Calls.{gives, activityBytes, activityCause, activityOutcome, leastOutcome}
 use Rattle.surface.specs.Calls.{readingCause, exactOutcome, answer, displayOutcome, costOutcome, wholeWatts}
 use Rattle.surface.specs.Calls.{costOf}
 use Rattle.surface.specs.Demands.{Around}
-use Rattle.surface.specs.Bench.{rows, zeros, refined, columnsS, S, flat, first, second, columnsCarried}
-use Rattle.surface.specs.Bench.{carriedS, level700, ActivityIs, Equal, Finest, OneOnEight, BenchSheet}
-use Rattle.surface.specs.Cases.{halfWatt, WholeWattsPriced}
-use Rattle.surface.specs.Computed.{inserted, visited, two-by-one}
+use Rattle.bench.specs.Bench.{rows, zeros, refined, columnsS, S, flat, first, second, columnsCarried}
+use Rattle.bench.specs.Bench.{carriedS, level700, ActivityIs, Equal, Finest, OneOnEight, BenchSheet}
+use Rattle.bench.specs.Cases.{halfWatt, WholeWattsPriced}
+use Rattle.bench.proofs.Computed.{inserted, visited, two-by-one}
 use Rattle.surface.proofs.Least.{leastUnder-le-3, le-leastWhere}
 use Rattle.surface.proofs.TableLaws.{formed-tree, place-in-slice, acceptable}
 use Rattle.surface.proofs.PatchReading.{patch-reading}
 use Rattle.surface.proofs.Around.{bracketed}
 use Rattle.surface.proofs.Demands.{reading-given}
-use Rattle.surface.proofs.BenchLaws.{eqZ, columns-by, everywhere-by, zero-coefficient, activity-is, tree-gives}
-use Rattle.surface.proofs.BenchLaws.{last-point, wide-least, wide-insert}
+use Rattle.bench.proofs.BenchLaws.{eqZ, columns-by, everywhere-by, zero-coefficient, activity-is, tree-gives}
+use Rattle.bench.proofs.BenchLaws.{last-point, wide-least, wide-insert}
 
 -- a reading on the unrefined 1 by 1 sheet, by its patch
 read : (cs : List ℤ) (u v : ℕ) (n : ℤ) → readingCause 1 1 flat cs u v ≡ 0 → u ≤ 128 → v ≤ 128

@@ -2,24 +2,24 @@
 -- to document 01.
 use mathlib.Core.Path.{refl}
 use Rattle.finite.specs.Range.{sum, every, count, total, least, tableFrom, rowsFrom}
 use Rattle.surface.specs.Sheet.{eighths}
 use Rattle.surface.specs.Quadtree.{bytes, parse, wellFormed, levelAt, regionTree, visits}
 use Rattle.surface.specs.Support.{leastUnder, activeInRow, activeCount, activeBefore}
 use Rattle.surface.specs.Spline.{cellOf, piece}
 use Rattle.surface.specs.Truncation.{weight}
 use Rattle.surface.specs.Carry.{carried}
 use Rattle.surface.specs.Patch.{patch, patchReading}
 use Rattle.surface.specs.Table.{levels, start, coefficients, sliceFrom, withinLimits, passiveZero, regionCause}
 use Rattle.surface.specs.Table.{tableCause}
 use Rattle.surface.specs.Calls.{freshOutcome, newTree, newCoefficients, insertCause, insertOutcome, setCause}
 use Rattle.surface.specs.Calls.{setOutcome, activityBytes, activityCause, activityOutcome, leastOutcome}
-use Rattle.surface.specs.Calls.{readingCause, exactOutcome, displayOutcome, costOutcome, wholeWatts}
+use Rattle.surface.specs.Calls.{readingCause, exactOutcome, displayOutcome, costOutcome}
 use Rattle.surface.specs.Fields.{field, allWithin}
 use Rattle.surface.specs.TableFile.{sidesField, treeField, levelField, levelFields, fileContents, fileOutcome}
-use Rattle.surface.specs.Bench.{Inserted, Visited, TwoByOne}
-use Rattle.surface.specs.Cases.{InsideCell, Children, Shortest, Longest, EastBox, LimitFirst, NewTree, Activity}
-use Rattle.surface.specs.Cases.{Sets, Fresh, LevelZero, SetsFine, Declined, LowestGiven, Rounded, Costs, Files}
-use Rattle.surface.specs.Cases.{Heads, ContentsFirst}
+use Rattle.bench.specs.Bench.{Inserted, Visited, TwoByOne}
+use Rattle.bench.specs.Cases.{InsideCell, Children, Shortest, Longest, EastBox, LimitFirst, NewTree, Activity}
+use Rattle.bench.specs.Cases.{Sets, Fresh, LevelZero, SetsFine, Declined, LowestGiven, Costs, Files}
+use Rattle.bench.specs.Cases.{Heads, ContentsFirst}
 
 -- ---- of the bench sheet
 
@@ -113,10 +113,6 @@ unfolding exactOutcome readingCause insertOutcome insertCause setOutcome setCaus
     activityOutcome activityCause tableCause regionCause withinLimits passiveZero every leastUnder least eighths levels
     levelAt parse wellFormed start coefficients
 lowest-given = (refl, refl, refl, refl, refl, refl, refl, refl)
-
-pub rounded : Rounded
-unfolding wholeWatts
-rounded = (refl, refl, refl, refl)
 
 pub costs : Costs
 costs = (refl, refl, refl)

@@ -1,0 +1,5 @@
+pub mod Computed
+pub mod BenchLaws
+pub mod Bench
+pub mod Unrefined
+pub mod LinkedBench
