@@ -135,12 +135,12 @@ fn region_words(rows: &[u32; 96], w: usize, level: usize, window: Window, region
     Marks { even, odd }
 }
 
-// Whether function a is marked in such words.
-fn stands(m: Marks, a: usize, e: usize) -> bool
+// Whether function a is marked in such words, passed apart, since a choice between fields would go through memory.
+fn stands(even: u64, odd: u64, a: usize, e: usize) -> bool
     requires { ⌜ (a * e ≤ 88) × (e ≤ 8) ⌝ }
-    ensures { λ r. ⌜ r ≡ marked e (placed e m) a ⌝ }
+    ensures { λ r. ⌜ r ≡ marked e (placed e (record { even = even; odd = odd })) a ⌝ }
 {
-    let word = if a % 2 == 0 { m.even } else { m.odd };
+    let word = if a % 2 == 0 { even } else { odd };
     let place = (32 + a * e - 3 * e) / 2;
     1 <= (word >> place) % 2
 }

@@ -20,10 +20,10 @@ fn column(
     ensures { λ x. ⌜ Column e (placed e m0) (placed e m1) (placed e m2) (placed e m3) a x ⌝ }
 {
     [
-        super::stands(m0, a, e),
-        super::stands(m1, a, e),
-        super::stands(m2, a, e),
-        super::stands(m3, a, e),
+        super::stands(m0.even, m0.odd, a, e),
+        super::stands(m1.even, m1.odd, a, e),
+        super::stands(m2.even, m2.odd, a, e),
+        super::stands(m3.even, m3.odd, a, e),
     ]
 }
 

@@ -42,6 +42,10 @@ parents-fit W H L b n columns hb =
 pub columns-few : (W L : ℕ) → W ≤ 8 → L < 3 → functions W L ≤ 35
 columns-few W L hW hL = omega (arith, functions-step W L, functions-le W (suc L) hW hL)
 
+-- the finer level has an odd number
+pub columns-odd : (W L : ℕ) → functions W (L + 1) % 2 ≡ 1
+columns-odd W L = rw (add-one L) (omega (arith, functions-step W L))
+
 limit-coarse : (L : ℕ) → L < 3 → limit L ≤ 131072000
 limit-coarse L h =
     let power : 64 ^ L ≤ 4096 = pow-le-pow-right {n = 64} (omega arith) {i = L} {j = 2} (omega arith) in
@@ -90,7 +94,7 @@ module _ (W H : ℕ) (rows : List ℕ) (cs : List ℤ) where
   -- a function of the next level, from the sums along v
   module _ (L b e : ℕ) (marks : Marks) (s sums : List ℤ) (side : e ≡ eighths (L + 1)) (below : b < functions H (L + 1))
       (found : RegionRow W H (L + 1) b (L + 1) (levelsOf rows) marks) (h : Holds L s)
-      (along : AlongV (functions W L) b s sums) where
+      (along : AlongV (functions W L) (functions W L) b s sums) where
     next-value : (a : ℕ) → a < functions W (L + 1)
         → carriedIf (marked e marks a) (coefficients W H cs (L + 1) a b) sums a ≡ value (L + 1) a b
     unfolding carried

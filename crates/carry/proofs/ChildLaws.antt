@@ -16,7 +16,7 @@ use Rattle.surface.proofs.Parents.{parents, parents2}
 use Rattle.patch.specs.Steps.{Small, midway, evenOf, oddOf}
 use Rattle.patch.proofs.Four.{nested}
 use Rattle.patch.proofs.Subdivision.{even-child, odd-child, even-size, odd-size}
-use Rattle.carry.specs.Carried.{Within, childOf, childFrom, columnChild}
+use Rattle.carry.specs.Carried.{Within, childOf, childFrom, columnChild, AlongV}
 
 -- ---- a child by the parity of its index
 
@@ -78,21 +78,11 @@ reads-below n b c j hc hj h =
     let rows : b / 2 + j + 1 ≤ b / 2 + b % 2 + 2 = omega arith in
     omega (arith, mul-le-mul-right n rows, add-mul (b / 2) j n, add-mul (b / 2 + j) 1 n)
 
--- the first c sums are written
-pub record Sums (n b : ℕ) (s : List ℤ) (c : ℕ) (r : List ℤ) : Type 0 where
-  pub size : length r ≡ 35
-  pub sums : (k : ℕ) → k < c → getD r k (pos 0) ≡ columnChild s n b k
-  pub small : Within midway r
+pub zeros-small : Within midway (replicate 35 (pos 0))
+zeros-small k h = rw (getD-replicate 35 k (pos 0) (pos 0) h) (omega arith)
 
-pub sums-none : (n b : ℕ) (s : List ℤ) → Sums n b s 0 (replicate 35 (pos 0))
-sums-none n b s = record {
-  size = refl;
-  sums = λ k h. absurd (omega arith);
-  small = λ k h. rw (getD-replicate 35 k (pos 0) (pos 0) h) (omega arith);
-}
-
-pub sums-more : (n b c : ℕ) (s r : List ℤ) (v : ℤ) → c < 35 → Sums n b s c r → v ≡ childFrom s (b / 2 * n + c) n b
-    → Small v → Sums n b s (c + 1) (set r c v)
+pub sums-more : (n b c : ℕ) (s r : List ℤ) (v : ℤ) → c < 35 → AlongV c n b s r → v ≡ childFrom s (b / 2 * n + c) n b
+    → Small v → AlongV (c + 1) n b s (set r c v)
 sums-more n b c s r v inside w e small = record {
   size = length-set r c v ∙ w .size;
   sums = λ k h. go k h (native.Mathlib.Decide.ℕ-discrete k c);

@@ -44,10 +44,10 @@ childFrom s at step c = childOf c (λ i. getD s (at + i * step) (pos 0))
 abbrev pub columnChild : List ℤ → ℕ → ℕ → ℕ → ℤ
 columnChild s n b c = childOf b (λ j. getD s ((b / 2 + j) * n + c) (pos 0))
 
--- those of the n columns
-pub record AlongV (n b : ℕ) (s r : List ℤ) : Type 0 where
+-- those of the first k columns
+pub record AlongV (k n b : ℕ) (s r : List ℤ) : Type 0 where
   pub size : length r ≡ 35
-  pub sums : (c : ℕ) → c < n → getD r c (pos 0) ≡ columnChild s n b c
+  pub sums : (c : ℕ) → c < k → getD r c (pos 0) ≡ columnChild s n b c
   pub small : Within midway r
 
 -- function a: its own coefficient if a test holds, else the child along u of the sums

@@ -4,7 +4,8 @@
 ghost use mathlib.Core.Path.{_≡_};
 ghost use Prim.Native.Nat.{_+_, _*_, _/_, _%_, _≤_, _<_};
 ghost use lib.Dec.{leb};
-ghost use lib.ListN.{length, take};
+ghost use lib.IntN.{pos};
+ghost use lib.ListN.{length, getD, set, take};
 ghost use Rattle.surface.specs.Table.{start, slots};
 ghost use Rattle.patch.specs.Steps.{midway, Small};
 ghost use Rattle.rows.specs.Rows.{Nested};
@@ -28,54 +29,63 @@ fn child(values: &[i64], at: usize, step: usize, c: usize) -> i64
     patch::odd(x, y, values[next + step])
 }
 
-// The first step of row b's sums, along v: a child for each of the n columns of the coarser level.
-fn along_v(coarse: &[i64], n: usize, b: usize) -> [i64; 35]
-    requires { ⌜ (n ≤ 35) × ((b / 2 + b % 2 + 2) * n ≤ length (now coarse)) × Within 131072000 (now coarse) ⌝ }
-    ensures { λ r. ⌜ AlongV n b (now (coarse .entry)) r ⌝ }
+// Writes the first step of row b's sums, along v, into an array that all rows share, so that it is made once: a child
+// for each of the n columns of the coarser level.
+fn along_v(sums: &mut [i64; 35], coarse: &[i64], n: usize, b: usize)
+    requires { ⌜ (n ≤ 35) × ((b / 2 + b % 2 + 2) * n ≤ length (now coarse)) × Within 131072000 (now coarse)
+        × (length (now sums) ≡ 35) × Within midway (now sums) ⌝ }
+    ensures { λ _. ⌜ AlongV n n b (now (coarse .entry)) (now (sums .exit)) ⌝ }
 {
-    let mut sums = [0; 35];
     let first = b / 2 * n;
     let mut c = 0;
     while c < n {
         sums[c] = child(coarse, first + c, n, b);
         c += 1;
     }
-    sums
 }
 
-// The carried value of function a: its own coefficient if its mark is 1, else the child along u of the sums along v.
-fn carried(own: i64, sums: &[i64; 35], mark: u64, a: usize) -> i64
-    requires { ⌜ (a < 67) × Within midway (now sums) ⌝ }
-    ensures { λ r. ⌜ r ≡ carriedIf (leb 1 mark) own (now (sums .entry)) a ⌝ }
+// Writes the carried value of function a into its row: its own coefficient if its mark is 1, else the child along u of
+// the sums along v.
+fn put(row: &mut [i64], own: &[i64], sums: &[i64; 35], mark: u64, a: usize)
+    requires { ⌜ (a < length (now row)) × (length (now row) ≤ 67) × (length (now own) ≡ length (now row))
+        × Within midway (now sums) ⌝ }
+    ensures { λ _. ⌜ now (row .exit) ≡ set (now (row .entry)) a
+        (carriedIf (leb 1 mark) (getD (now (own .entry)) a (pos 0)) (now (sums .entry)) a) ⌝ }
 {
     if 1 <= mark {
-        return own;
+        row[a] = own[a];
+        return;
     }
-    child(sums, a / 2, 1, a)
+    row[a] = child(sums, a / 2, 1, a);
 }
 
 // Writes the carried values of a row, given its own coefficients: those functions are marked whose cut support lies in
-// the region of their level; a cell's side is e eighths.
+// the region of their level; a cell's side is e eighths. Two at a time, so that no index is tested for being odd.
 fn fill_row(row: &mut [i64], own: &[i64], sums: &[i64; 35], inside: activity::Marks, e: usize)
-    requires { ⌜ (length (now row) ≤ 67) × (length (now own) ≡ length (now row)) × (e ≤ 8)
-        × Within midway (now sums) ⌝ }
+    requires { ⌜ (length (now row) ≤ 67) × (length (now row) % 2 ≡ 1) × (length (now own) ≡ length (now row))
+        × (e ≤ 8) × Within midway (now sums) ⌝ }
     ensures { λ r. ⌜ now (row .exit) ≡ rowCarried (marked e inside) (now (sums .entry)) (now (own .entry)) ⌝ }
 {
-    let n = row.len();
+    let pairs = row.len() / 2;
     let mut m = inside;
-    let mut a = 0;
-    while a < n {
-        row[a] = carried(own[a], sums, m.even % 2, a);
+    let mut k = 0;
+    while k < pairs {
+        put(row, own, sums, m.even % 2, 2 * k);
         m = activity::next(m, e);
-        a += 1;
+        put(row, own, sums, m.even % 2, 2 * k + 1);
+        m = activity::next(m, e);
+        k += 1;
     }
+    put(row, own, sums, m.even % 2, 2 * k);
 }
 
 // Writes the carried values of the level after `coarse`; those of the levels up to `coarse` are written.
 fn fill_level(out: &mut [i64], numbers: &[i64], rows: &[u32; 96], w: usize, h: usize, coarse: usize)
     requires { ⌜ (w ≤ 8) × (h ≤ 8) × (coarse < 3) × (length (now numbers) ≡ slots w h) × Nested (now rows)
-        × CarriedFit w h (now rows) (now numbers) × CarriedTo (start w h (coarse + 1)) w h (now rows) (now numbers) (now out) ⌝ }
-    ensures { λ r. ⌜ CarriedTo (start w h (coarse + 2)) w h (now (rows .entry)) (now (numbers .entry)) (now (out .exit)) ⌝ }
+        × CarriedFit w h (now rows) (now numbers)
+        × CarriedTo (start w h (coarse + 1)) w h (now rows) (now numbers) (now out) ⌝ }
+    ensures { λ r. ⌜ CarriedTo (start w h (coarse + 2)) w h (now (rows .entry)) (now (numbers .entry))
+        (now (out .exit)) ⌝ }
 {
     let level = coarse + 1;
     let low = coefficients::start(w, h, coarse);
@@ -84,11 +94,12 @@ fn fill_level(out: &mut [i64], numbers: &[i64], rows: &[u32; 96], w: usize, h: u
     let n = coefficients::functions(w, level);
     let m = coefficients::functions(h, level);
     let e = activity::eighths(level);
+    let mut sums = [0; 35];
     let mut from = first;
     let mut b = 0;
     while b < m {
         let inside = activity::region_row(rows, w, h, level, b, level);
-        let sums = along_v(&out[low..first], columns, b);
+        along_v(&mut sums, &out[low..first], columns, b);
         let to = from + n;
         fill_row(&mut out[from..to], &numbers[from..to], &sums, inside, e);
         from = to;

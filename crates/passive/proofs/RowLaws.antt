@@ -8,9 +8,6 @@ use lib.Dec.{leb}
 use lib.IntN.{ℤ, pos}
 use lib.ListN.{length, getD, set, drop, length-set}
 use lib.Seq.{getD-append-add, getD-drop}
-use mir.Syntax.{w64}
-use mir.Val.{SFits, toZ, ofZ}
-use mir.ValLaws.{toZ-ofZ}
 use Rattle.finite.specs.Range.{tableFrom}
 use Rattle.finite.proofs.Table.{length-table}
 use Rattle.activity.specs.Marks.{marked, From}
@@ -44,19 +41,17 @@ module _ (g : Rule) (e : ℕ) (marks : Marks) (own before : List ℤ) where
       ∙ getD-drop a before 0 (pos 0)
       ∙ ap (λ i. getD before i (pos 0)) (add-zero a)
 
-  -- z is read, v is made of it and stored
-  pub turn-next : (a : ℕ) {m r : Marks} {row : List ℤ} {z v : ℤ} → a < length before → Turn a m row → From e 1 m r
-      → z ≡ getD own a (pos 0) → SFits w64 z → SFits w64 v → v ≡ g (leb 1 (m .even % 2)) a (toZ w64 (ofZ w64 z))
-      → Turn (a + 1) r (set row a (toZ w64 (ofZ w64 v)))
-  turn-next a {m} {r} {row} {z} {v} h t next read fits made e′ =
-      let new : toZ w64 (ofZ w64 v) ≡ mapped g e marks own a =
-      toZ-ofZ w64 v made ∙ e′
-      ∙ ap₂ (λ x z. g (leb 1 x) a z) (from-here e a marks m (t .rest)) (toZ-ofZ w64 z fits ∙ read) in
+  -- the next place is written
+  pub turn-set : (a : ℕ) {m r : Marks} {row new : List ℤ} → a < length before → Turn a m row → From e 1 m r
+      → new ≡ set row a (g (leb 1 (m .even % 2)) a (getD own a (pos 0))) → Turn (a + 1) r new
+  turn-set a {m} {r} {row} h t next stored =
+      let v = g (leb 1 (m .even % 2)) a (getD own a (pos 0)) in
       record {
-        size = length-set row a _ ∙ t .size;
+        size = ap length stored ∙ length-set row a v ∙ t .size;
         rest = from-next e a marks m r (t .rest) next;
-        done = ap (λ l. set l a (toZ w64 (ofZ w64 v))) (t .done)
-            ∙ written-more a (mapped g e marks own) before (toZ w64 (ofZ w64 v)) h new;
+        done = stored ∙ ap (λ l. set l a v) (t .done)
+            ∙ written-more a (mapped g e marks own) before v h
+            (ap (λ x. g (leb 1 x) a (getD own a (pos 0))) (from-here e a marks m (t .rest)));
       }
 
   pub turn-all : (a : ℕ) {m : Marks} {row : List ℤ} → a ≡ length before → Turn a m row

@@ -1,20 +1,25 @@
 // 0 at every place whose function is passive under given regions; every other place keeps its number.
 ghost use mathlib.Core.Path.{_≡_};
 ghost use mathlib.Core.List.{List};
-ghost use Prim.Native.Nat.{_+_, _≤_};
+ghost use Prim.Native.Nat.{_+_, _≤_, _<_};
 ghost use lib.Dec.{leb};
-ghost use lib.IntN.{ℤ};
-ghost use lib.ListN.{length};
+ghost use lib.IntN.{ℤ, pos};
+ghost use lib.ListN.{length, getD, set};
 ghost use Rattle.surface.specs.Table.{start, slots};
 ghost use Rattle.rows.specs.Rows.{Nested};
 ghost use Rattle.activity.specs.Marks.{marked};
 ghost use Rattle.passive.specs.Cleared.{keptIf, rowCleared, clearedSlice, ClearedTo};
 
-// The number if its mark is 1, else 0.
-fn kept(number: i64, mark: u64) -> i64
-    ensures { λ r. ⌜ r ≡ keptIf (leb 1 mark) number ⌝ }
+// Clears place a of a row unless its mark is 1.
+fn clear_place(row: &mut [i64], mark: u64, a: usize)
+    requires { ⌜ a < length (now row) ⌝ }
+    ensures { λ _. ⌜ now (row .exit)
+        ≡ set (now (row .entry)) a (keptIf (leb 1 mark) (getD (now (row .entry)) a (pos 0))) ⌝ }
 {
-    if 1 <= mark { number } else { 0 }
+    if 1 <= mark {
+        return;
+    }
+    row[a] = 0;
 }
 
 // Clears one row of a level, whose active functions are marked; a cell's side is e eighths.
@@ -26,7 +31,7 @@ fn clear_row(row: &mut [i64], marks: activity::Marks, e: usize)
     let mut m = marks;
     let mut a = 0;
     while a < n {
-        row[a] = kept(row[a], m.even % 2);
+        clear_place(row, m.even % 2, a);
         m = activity::next(m, e);
         a += 1;
     }

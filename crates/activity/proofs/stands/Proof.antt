@@ -15,13 +15,12 @@ returns : tie.Need-returns
 unfolding bit
 returns c =
     let g = c .before .before .args in
-    let m = g .m in
     ⊎-elim
     (λ w. rw (w .1) (sym (ap (leb 1)
-    (even-place (g .e) (m .even) (m .odd) (g .a) (c .before .before .pre .1) (w .0 .taken)))))
+    (even-place (g .e) (g .even) (g .odd) (g .a) (c .before .before .pre .1) (w .0 .taken)))))
     (λ w.
     let one : g .a % 2 ≡ 1 = omega (arith, w .0 .left, mod-lt (g .a) (zero-lt-suc 1)) in
-    rw (w .1) (sym (ap (leb 1) (odd-place (g .e) (m .even) (m .odd) (g .a) (c .before .before .pre .1) one))))
+    rw (w .1) (sym (ap (leb 1) (odd-place (g .e) (g .even) (g .odd) (g .a) (c .before .before .pre .1) one))))
     (c .before .if1 .came)
 
 pub stands-spec : {M : Type 1} → statement M

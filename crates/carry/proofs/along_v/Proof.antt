@@ -1,21 +1,22 @@
 -- Before each turn the sums of the columns below c are written.
-use mathlib.Core.Path.{_∙_}
+use mathlib.Core.Path.{_≡_, _∙_}
 use Prim.Native.Nat.{_≤_, _-_, _+_, _/_, _%_}
 use native.Mathlib.Nat.{mul-le-mul-right}
 use native.Mathlib.Omega.{arith}
 use borrow.Author.Needs.{sfits-of}
 use mir.Syntax.{w64}
 use mir.ValLaws.{toZ-ofZ}
-use Rattle.carry.proofs.ChildLaws.{Sums, sums-none, sums-more, reads-below}
+use Rattle.carry.specs.Carried.{AlongV}
+use Rattle.carry.proofs.ChildLaws.{sums-more, reads-below}
 use Rattle.carry.proofs.along_v.Statement.{statement}
 use Rattle.carry.proofs.along_v.Tie as tie
 
 abbrev Inv-loop : tie.InvT-loop
-Inv-loop coarse n b sums₀ first c₀ sums c =
-    (c ≤ n) × Sums n b coarse c sums
+Inv-loop sums₀ coarse n b first c₀ sums c =
+    (c ≤ n) × AlongV c n b coarse sums
 
 abbrev μ-loop : tie.MeasureT-loop
-μ-loop coarse n b sums₀ first c₀ sums c = n - c
+μ-loop sums₀ coarse n b first c₀ sums c = n - c
 
 mul-first : tie.Need-mul-first Inv-loop μ-loop
 mul-first c =
@@ -25,7 +26,7 @@ mul-first c =
 
 loop-holds : tie.Need-loop-holds Inv-loop μ-loop
 loop-holds c =
-    let a = c .args in (omega arith, sums-none (a .n) (a .b) (a .coarse .now))
+    (omega arith, record { size = c .pre .3; sums = λ k h. absurd (omega arith); small = c .pre .4 })
 
 add-child : tie.Need-add-child Inv-loop μ-loop
 add-child c =
@@ -60,9 +61,8 @@ loop-again c =
 
 returns : tie.Need-returns Inv-loop μ-loop
 returns c =
-    let loop = c .before .loop in
-    let sums = loop .inv .1 in
-    record { size = sums .size; sums = λ k h. sums .sums k (omega arith); small = sums .small }
+    let all : c .before .loop .c ≡ c .before .before .args .n = omega arith in
+    rw all at (c .before .loop .inv .1)
 
 pub along-v-spec : {M : Type 1} → statement M
 along-v-spec =

@@ -31,8 +31,8 @@ loop-holds c =
     let s = c .before .before .before .before in
     let a = s .args in (
       omega arith,
-      level-zero (a .w) (a .h) (a .rows .now) (a .numbers .now) (few .result) _ (s .pre .2) (copied .ensures .0 ∙ s .pre .3)
-          (few .ensures .0) (copied .ensures .1),
+      level-zero (a .w) (a .h) (a .rows .now) (a .numbers .now) (few .result) _ (s .pre .2)
+          (copied .ensures .0 ∙ s .pre .3) (few .ensures .0) (copied .ensures .1),
     )
 
 loop-again : tie.Need-loop-again Inv-loop μ-loop

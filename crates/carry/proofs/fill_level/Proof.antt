@@ -1,6 +1,6 @@
 -- Before each turn the rows of the level below b hold their carried values.
-use mathlib.Core.Path.{_≡_, sym, ap, _∙_, subst}
-use Prim.Native.Nat.{_+_, _-_, _*_, _≤_, _<_}
+use mathlib.Core.Path.{_≡_, refl, sym, ap, _∙_, subst}
+use Prim.Native.Nat.{_+_, _-_, _*_, _%_, _≤_, _<_}
 use native.Mathlib.Nat.{le-add-right}
 use native.Mathlib.Numerals.{add-one}
 use native.Mathlib.Omega.{arith}
@@ -11,18 +11,21 @@ use Rattle.surface.specs.Table.{start}
 use Rattle.surface.proofs.TableLaws.{start-step}
 use Rattle.activity.proofs.WindowLaws.{eighths-le}
 use Rattle.coefficients.proofs.Parts.{part, part-length, row-end, row-next, rows-none}
-use Rattle.carry.specs.Carried.{CarriedTo, AlongV}
+use Rattle.carry.specs.Carried.{CarriedTo, AlongV, Within}
 use Rattle.passive.proofs.SliceLaws.{rows-end}
-use Rattle.carry.proofs.CarryLaws.{parents-fit, columns-few, Holds, held, holds-within, row-carried}
+use Rattle.patch.specs.Steps.{midway}
+use Rattle.carry.proofs.ChildLaws.{zeros-small}
+use Rattle.carry.proofs.CarryLaws.{parents-fit, columns-few, columns-odd, Holds, held, holds-within, row-carried}
 use Rattle.carry.proofs.fill_level.Statement.{statement}
 use Rattle.carry.proofs.fill_level.Tie as tie
 
 abbrev Inv-loop : tie.InvT-loop
-Inv-loop out₀ cs rows w h coarse level low first columns n m e from₀ b₀ out from b =
+Inv-loop out₀ cs rows w h coarse level low first columns n m e sums₀ from₀ b₀ out sums from b =
     (b ≤ m) × (from ≡ start w h (coarse + 1) + b * n) × CarriedTo from w h rows cs out
+    × (length sums ≡ 35) × Within midway sums
 
 abbrev μ-loop : tie.MeasureT-loop
-μ-loop out₀ cs rows w h coarse level low first columns n m e from₀ b₀ out from b = m - b
+μ-loop out₀ cs rows w h coarse level low first columns n m e sums₀ from₀ b₀ out sums from b = m - b
 
 -- where the level's part starts
 begins : (c : tie.After-places Inv-loop μ-loop)
@@ -43,6 +46,8 @@ loop-holds c =
       begins parts ∙ rows-none _ (wide .functions2 .result),
       subst (λ k. CarriedTo k (a .w) (a .h) (a .rows .now) (a .numbers .now) (a .out .now)) (sym (begins parts))
           (s .pre .6),
+      refl,
+      zeros-small,
     )
 
 -- a turn's row is one of the level's, and inside the slices
@@ -88,9 +93,9 @@ coarser c =
     let parts = c .before .before .before .before .before .before in
     let s = parts .before .before in
     let a = s .args in
-    held (a .w) (a .h) (a .rows .now) (a .numbers .now) (a .coarse) _ (parts .before .start .result) (parts .places .result)
-    (c .before .loop .out) (omega (arith, s .pre .2)) (parts .before .start .ensures .0) (parts .places .ensures .0)
-    (reach c) (omega (arith, c .before .loop .inv .1)) (c .before .loop .inv .2)
+    held (a .w) (a .h) (a .rows .now) (a .numbers .now) (a .coarse) _ (parts .before .start .result)
+    (parts .places .result) (c .before .loop .out) (omega (arith, s .pre .2)) (parts .before .start .ensures .0)
+    (parts .places .ensures .0) (reach c) (omega (arith, c .before .loop .inv .1)) (c .before .loop .inv .2)
 
 region-row-requires : tie.Need-region-row-requires Inv-loop μ-loop
 region-row-requires c κs =
@@ -99,7 +104,7 @@ region-row-requires c κs =
 
 along-v-requires : tie.Need-along-v-requires Inv-loop μ-loop
 along-v-requires c κs =
-    let turn = c .before .before .before in
+    let turn = c .before .before .before .before in
     let columns = turn .before .before .before .before .before in
     let s = columns .before .before .before in
     let a = s .args in
@@ -109,12 +114,14 @@ along-v-requires c κs =
           (parents-fit (a .w) (a .h) (a .coarse) (turn .before .loop .b) (columns .functions .result)
           (columns .functions .ensures .0) (row turn)),
       holds-within (a .w) (a .h) (a .rows .now) (a .numbers .now) (a .coarse) _ (s .pre .2) (s .pre .5) h,
+      turn .before .loop .inv .3,
+      turn .before .loop .inv .4,
     )
 
 fill-row-requires : tie.Need-fill-row-requires Inv-loop μ-loop
 fill-row-requires c κs =
     let along = c .before .before .before in
-    let turn = along .before .before .before .before in
+    let turn = along .before .before .before .before .before in
     let side = turn .before .before in
     let wide = side .before .before in
     let s = wide .before .before .before .before in
@@ -122,6 +129,7 @@ fill-row-requires c κs =
     let from = turn .before .loop .from in
     let count = part-length from n (turn .before .loop .out) (omega (arith, inside turn, same turn)) in (
       omega (arith, count, wide .functions2 .ensures .1),
+      ap (λ k. k % 2) (count ∙ wide .functions2 .ensures .0) ∙ columns-odd (s .args .w) (s .args .coarse),
       part-length from n (s .args .numbers .now) (inside turn) ∙ sym count,
       omega (arith, side .eighths .ensures, eighths-le (s .args .coarse + 1)),
       along .along-v .ensures .small,
@@ -131,7 +139,7 @@ loop-again : tie.Need-loop-again Inv-loop μ-loop
 loop-again c =
     let called = c .before in
     let along = called .before .before .before .before in
-    let marks = along .before .before .before in
+    let marks = along .before .before .before .before in
     let turn = marks .before in
     let loop = turn .before .loop in
     let side = turn .before .before in
@@ -140,16 +148,18 @@ loop-again c =
     let parts = columns .before in
     let s = parts .before .before in
     let a = s .args in
-    let sums : AlongV (functions (a .w) (a .coarse)) (loop .b)
-    (part (parts .before .start .result) (parts .places .result) (loop .out)) (along .along-v .result) =
+    let sums : AlongV (functions (a .w) (a .coarse)) (functions (a .w) (a .coarse)) (loop .b)
+    (part (parts .before .start .result) (parts .places .result) (loop .out)) (along .along-v .last .0) =
     rw (columns .functions .ensures .0) at (along .along-v .ensures) in (
       omega (arith, turn .loop-test .taken),
       row-next (loop .b) (wide .functions2 .result) (start (a .w) (a .h) (a .coarse + 1)) (loop .inv .1),
       row-carried (a .w) (a .h) (a .rows .now) (a .numbers .now) (a .coarse) (loop .b) (side .eighths .result)
-          (marks .region-row .result) _ (along .along-v .result) (side .eighths .ensures) (row turn)
+          (marks .region-row .result) _ (along .along-v .last .0) (side .eighths .ensures) (row turn)
           (marks .region-row .ensures) (coarser turn) sums (wide .functions2 .result) (loop .from) (loop .out)
           (called .fill-row .last .0) (s .pre .2) (wide .functions2 .ensures .0) (loop .inv .1) (s .pre .3)
           (called .fill-row .ensures) (c .out2 .given .1 ∙ loop .inv .2 .size) (loop .inv .2),
+      sums .size,
+      sums .small,
     )
 
 same-length : tie.Need-same-length Inv-loop μ-loop
@@ -184,20 +194,20 @@ fill-level-spec =
     (λ c κs. search needs)
     loop-holds
     region-row-requires
-    (λ c. omega (arith, inside (c .before)))
+    (λ c. omega (arith, inside (c .before .before)))
     (λ c. le-add-right _ _)
     (λ c. le-add-right _ _)
-    (λ c. reach (c .before .before))
+    (λ c. reach (c .before .before .before))
     along-v-requires
-    (λ c. omega (arith, inside (c .before .before .before .before)))
-    (λ c. omega (arith, inside (c .before .before .before .before)))
-    (λ c. le-add-right _ _)
-    (λ c. le-add-right _ _)
-    (λ c. omega (arith, inside (c .before .before .before .before), same (c .before .before .before .before)))
+    (λ c. omega (arith, inside (c .before .before .before .before .before)))
     (λ c. omega (arith, inside (c .before .before .before .before .before)))
     (λ c. le-add-right _ _)
     (λ c. le-add-right _ _)
-    (λ c. inside (c .before .before .before .before .before))
+    (λ c. let turn = c .before .before .before .before .before in omega (arith, inside turn, same turn))
+    (λ c. omega (arith, inside (c .before .before .before .before .before .before)))
+    (λ c. le-add-right _ _)
+    (λ c. le-add-right _ _)
+    (λ c. inside (c .before .before .before .before .before .before))
     fill-row-requires
     (λ c. omega arith)
     (λ c. omega arith)

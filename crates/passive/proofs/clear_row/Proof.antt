@@ -1,9 +1,12 @@
 -- Before each turn the places below a are cleared.
-use Prim.Native.Nat.{_≤_, _-_}
+use mathlib.Core.Path.{ap, _∙_}
+use Prim.Native.Nat.{_≤_, _-_, _%_}
 use native.Mathlib.Omega.{arith}
-use borrow.Author.Needs.{needs, sfits-of}
+use borrow.Author.Needs.{needs}
+use lib.Dec.{leb}
+use lib.ListN.{set}
 use Rattle.passive.specs.Cleared.{keptIf}
-use Rattle.passive.proofs.RowLaws.{Rule, Turn, turn-none, turn-here, turn-next, turn-all}
+use Rattle.passive.proofs.RowLaws.{Rule, Turn, turn-none, turn-here, turn-set, turn-all}
 use Rattle.passive.proofs.clear_row.Statement.{statement}
 use Rattle.passive.proofs.clear_row.Tie as tie
 
@@ -16,21 +19,17 @@ Inv-loop row₀ e n m₀ a₀ row m a = (a ≤ n) × Turn rule e m₀ row₀ row
 abbrev μ-loop : tie.MeasureT-loop
 μ-loop row₀ e n m₀ a₀ row m a = n - a
 
-loop-holds : tie.Need-loop-holds Inv-loop μ-loop
-loop-holds c = (omega arith, turn-none rule _ _ _ _)
-
 loop-again : tie.Need-loop-again Inv-loop μ-loop
 loop-again c =
-    let d = c .before in
-    let turn = d .before .before .before in
-    let loop = turn .before .loop in
-    let args = turn .before .before .args in
+    let call = c .before .before in
+    let loop = call .before .before .before .before .loop in
+    let args = call .before .before .before .before .before .args in
     let row = args .row .now in (
       omega arith,
-      turn-next rule (args .e) (args .marks) row row (loop .a) (turn .loop-test .taken) (loop .inv .1)
-          (c .next .ensures)
-          (turn-here rule (args .e) (args .marks) row row (loop .a) (loop .inv .1))
-          (sfits-of (d .before .before .kept-arg .given)) (sfits-of (d .kept .ok)) (d .kept .ensures),
+      turn-set rule (args .e) (args .marks) row row (loop .a) (omega arith) (loop .inv .1) (c .next .ensures)
+          (call .clear-place .ensures
+          ∙ ap (λ z. set (loop .row) (loop .a) (keptIf (leb 1 (loop .m .even % 2)) z))
+          (turn-here rule (args .e) (args .marks) row row (loop .a) (loop .inv .1))),
     )
 
 returns : tie.Need-returns Inv-loop μ-loop
@@ -45,12 +44,8 @@ clear-row-spec =
     (tie.spec
     Inv-loop
     μ-loop
-    loop-holds
-    (λ c. omega arith)
-    (λ c. omega arith)
+    (λ c. (omega arith, turn-none rule _ _ _ _))
     (λ c κs. search needs)
-    (λ c. omega arith)
-    (λ c. omega arith)
     (λ c κs. omega arith)
     (λ c. omega arith)
     (λ c. omega arith)
