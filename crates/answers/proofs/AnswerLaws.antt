@@ -41,16 +41,16 @@ table-done {a} {numbers} e p q tree treeOut t numbersOut r = (
   q ∙ ap (λ c. afterwards c numbersOut numbers) e,
 )
 
-pub slice-refused : {A : Type 0} {c k : ℕ} → k ≡ c → (k ≡ 0 → ⊥) → (new lent : List A)
-    → SliceMeets (done c new lent) (refused k) lent
-slice-refused {k} e h new lent = (
-  refused-with e h tt,
+pub slice-refused : {A B : Type 0} {c k : ℕ} → k ≡ c → (k ≡ 0 → ⊥) → (a : A) (new lent : List B)
+    → SliceMeets (done c a new lent) (refused k) lent
+slice-refused {k} e h a new lent = (
+  refused-with e h a,
   kept k lent new h ∙ ap (λ c. afterwards c lent new) e,
 )
 
-pub slice-done : {A : Type 0} {c : ℕ} {new after : List A} → 0 ≡ c → after ≡ new → (lent : List A)
-    → SliceMeets (done c new lent) (gives tt) after
-slice-done {new} e p lent = (gives-with e refl, p ∙ ap (λ c. afterwards c lent new) e)
+pub slice-done : {A B : Type 0} {c : ℕ} {a x : A} {new after : List B} → 0 ≡ c → x ≡ a → after ≡ new → (lent : List B)
+    → SliceMeets (done c a new lent) (gives x) after
+slice-done {new} e q p lent = (gives-with e q, p ∙ ap (λ c. afterwards c lent new) e)
 
 -- ---- a call that makes something of another's answer
 

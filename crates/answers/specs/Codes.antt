@@ -45,7 +45,7 @@ WattsAfter (refused n) old new = new ≡ old
 WattsAfter (gives n) old new = Near (2 ^ 30) D n new
 
 -- what a call that writes one slice leaves: its code and the slice
-abbrev pub SliceWritten : {A : Type 0} → Done A → ℕ → List A → Type 0
+abbrev pub SliceWritten : {A B : Type 0} → Done A B → ℕ → List B → Type 0
 SliceWritten o code slice = (code ≡ codeOf (o .result)) × (slice ≡ o .after)
 
 -- what a call that writes a table leaves: its code, the parameter that receives the tree's length, and both outputs

@@ -14,7 +14,7 @@ use Rattle.surface.specs.Calls.{gives, lengthCause, treeOutCause}
 use Rattle.surface.specs.Fields.{declined, contains}
 use Rattle.surface.specs.TableFile.{File, fileContents, FileResult, fileOutcomeOf, fileOutcome}
 use Rattle.surface.proofs.TableLaws.{sound, good-side, tree-formed}
-use Rattle.surface.proofs.Refusals.{answer-gives}
+use Rattle.surface.proofs.RefusalLaws.{answer-gives}
 use Rattle.coefficients.proofs.Sizes.{starts}
 use Rattle.corners.specs.Buffers.{placesOf, placesNamed}
 

@@ -11,7 +11,7 @@ use Rattle.surface.specs.Table.{_orElse_, slots}
 use Rattle.surface.specs.Calls.{refused, gives, lengthCause, treeOutCause}
 use Rattle.surface.specs.Fields.{declined, contains, lengthAt}
 use Rattle.surface.specs.TableFile.{Loaded, File, fileContents, FileResult, fileOutcomeOf, fileOutcome}
-use Rattle.surface.proofs.Refusals.{answer-gives, answer-refused}
+use Rattle.surface.proofs.RefusalLaws.{answer-gives, answer-refused}
 use Rattle.fields.proofs.FieldLaws.{bodyOf, restOf, body-length}
 use Rattle.tablefile.proofs.FileLaws.{accepted}
 use Rattle.text.specs.Text.{refusedLine}

@@ -15,7 +15,7 @@ use Rattle.finite.proofs.Tests.{both}
 use Rattle.surface.specs.Sheet.{goodSide, functions}
 use Rattle.surface.specs.Table.{cause, _orElse_, places, slots, limit, sliceFrom, sliceOf}
 use Rattle.surface.specs.Calls.{outputsCause, freshCause, freshCoefficients}
-use Rattle.surface.proofs.Refusals.{outputs}
+use Rattle.surface.proofs.RefusalLaws.{outputs}
 use Rattle.surface.proofs.TableLaws.{good-side}
 use Rattle.surface.proofs.Causes.{orElse-none, cause-none}
 use Rattle.coefficients.proofs.Sizes.{starts}

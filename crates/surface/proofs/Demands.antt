@@ -37,7 +37,7 @@ use Rattle.finite.specs.Range.{grid}
 use Rattle.finite.proofs.Table.{getD-grid}
 use Rattle.finite.proofs.Tests.{both}
 use borrow.Author.Tests.{ltb-false}
-use Rattle.surface.proofs.Refusals.{answer-gives}
+use Rattle.surface.proofs.RefusalLaws.{answer-gives}
 use Rattle.surface.proofs.Around.{on-sheet, bracketed, fits}
 use Rattle.surface.proofs.OneTree.{same-tree, one-tree-for}
 use Rattle.surface.proofs.Steps.{accepted, inserted-cases, all-keep}

@@ -23,6 +23,8 @@ pub mod OneTree
 pub mod Insertion
 pub mod Around
 pub mod Steps
+pub mod RefusalLaws
+pub mod FileRefusals
 pub mod Refusals
 pub mod Writers
 pub mod Demands

@@ -24,7 +24,7 @@ use Rattle.surface.proofs.Least.{leastWhere-le}
 use Rattle.surface.proofs.Selection.{touches, cell-shares}
 use Rattle.surface.proofs.TableLaws.{good-side, Sound, sound, acceptable}
 use Rattle.surface.proofs.TableLaws.{slice-length, slice-coefficient, place-in-slice, place-unique}
-use Rattle.surface.proofs.Refusals.{answer-gives}
+use Rattle.surface.proofs.RefusalLaws.{answer-gives}
 use Rattle.surface.proofs.Causes.{orElse-none, cause-none, cause-off}
 
 -- ---- fresh

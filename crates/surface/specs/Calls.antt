@@ -56,6 +56,18 @@ written c a tree numbers treeOut numbersOut =
 abbrev pub TableMeets : {A : Type 0} → Written A → Answer A → List ℕ → List ℤ → Type 0
 TableMeets o result tree numbers = (result ≡ o .result) × (tree ≡ o .tree) × (numbers ≡ o .numbers)
 
+-- The outcome of a call that writes to one lent buffer: the answer and the buffer.
+pub record Done (A B : Type 0) : Type 0 where
+  pub result : Answer A
+  pub after : List B
+
+abbrev pub done : {A B : Type 0} → ℕ → A → List B → List B → Done A B
+done c a new lent = record { result = answer c a; after = afterwards c lent new }
+
+-- An answer and the buffer are those of an outcome.
+abbrev pub SliceMeets : {A B : Type 0} → Done A B → Answer A → List B → Type 0
+SliceMeets o result after = (result ≡ o .result) × (after ≡ o .after)
+
 -- ---- causes
 
 -- 6: "point off the sheet"
@@ -153,21 +165,10 @@ setCause W H t cs L i j number =
     orElse cause 9 (not (indexFits W L i && indexFits H L j && active W H (levels t) L (index i) (index j)))
     orElse cause 10 (ltb (limit L) (natAbs number))
 
--- The outcome of a call that answers only whether it was done, with the lent buffer.
-pub record Done (A : Type 0) : Type 0 where
-  pub result : Answer (Unit {0})
-  pub after : List A
-
-abbrev pub done : {A : Type 0} → ℕ → List A → List A → Done A
-done c new lent = record { result = answer c tt; after = afterwards c lent new }
-
--- An answer and the buffer are those of an outcome.
-abbrev pub SliceMeets : {A : Type 0} → Done A → Answer (Unit {0}) → List A → Type 0
-SliceMeets o result after = (result ≡ o .result) × (after ≡ o .after)
-
-unfoldable pub setOutcome : ℕ → ℕ → List ℕ → List ℤ → ℕ → ℤ → ℤ → ℤ → Done ℤ
+-- Its answer is only that it was done.
+unfoldable pub setOutcome : ℕ → ℕ → List ℕ → List ℤ → ℕ → ℤ → ℤ → ℤ → Done (Unit {0}) ℤ
 setOutcome W H t cs L i j number =
-    done (setCause W H t cs L i j number) (set cs (place W H L (index i) (index j)) number) cs
+    done (setCause W H t cs L i j number) tt (set cs (place W H L (index i) (index j)) number) cs
 
 -- ---- activity of a level: "one byte per place, 0 or 1"
 
@@ -178,9 +179,9 @@ activityBytes W H t L = grid (functions W L) (functions H L) (λ a b. cond (acti
 unfoldable pub activityCause : ℕ → ℕ → List ℕ → ℕ → List ℕ → ℕ
 activityCause W H t L out = regionCause W H t orElse cause 8 (ltb 3 L) orElse lengthCause (places W H L) out
 
-unfoldable pub activityOutcome : ℕ → ℕ → List ℕ → ℕ → List ℕ → Done ℕ
+unfoldable pub activityOutcome : ℕ → ℕ → List ℕ → ℕ → List ℕ → Done (Unit {0}) ℕ
 activityOutcome W H t L out =
-    done (activityCause W H t L out) (activityBytes W H t L) out
+    done (activityCause W H t L out) tt (activityBytes W H t L) out
 
 -- ---- least level: "comes with the number of tree nodes visited"
 

@@ -42,7 +42,7 @@ pub record WritesAllOrNothing {A : Type 0} (numbers : List ℕ) (o : Written A) 
   pub lengths : (length (o .tree) ≡ length treeOut) × (length (o .numbers) ≡ length numbersOut)
 
 -- The same of a call that writes to one lent slice: set to one place of it, activity to all of it.
-pub record WritesSliceOrNothing {A : Type 0} (numbers : List ℕ) (o : Done A) (lent : List A) : Type 0 where
+pub record WritesSliceOrNothing {A B : Type 0} (numbers : List ℕ) (o : Done A B) (lent : List B) : Type 0 where
   pub number : RefusesWith numbers (o .result)
   pub refusal : (n : ℕ) → o .result ≡ refused n → o .after ≡ lent
   pub lengths : length (o .after) ≡ length lent

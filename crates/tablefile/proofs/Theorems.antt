@@ -10,7 +10,7 @@ use Rattle.surface.specs.Calls.{gives, lengthCause, treeOutCause}
 use Rattle.surface.specs.Fields.{declined, contains}
 use Rattle.surface.specs.TableFile.{Loaded, File, fileContents, fileOutcomeOf, fileOutcome}
 use Rattle.surface.proofs.TableLaws.{acceptable}
-use Rattle.surface.proofs.Refusals.{answer-gives}
+use Rattle.surface.proofs.RefusalLaws.{answer-gives}
 use Rattle.tablefile.specs.Files.{AcceptedIsAcceptable, LoadsAcceptable, OneFileEach, LongInput}
 use Rattle.tablefile.proofs.FileLaws.{accepted, accepted-sound}
 use Rattle.tablefile.proofs.LongLaws.{cut-contents}

@@ -1,5 +1,5 @@
 -- `set` gives the outcome of document 01: a refusal with nothing written, or the one place set.
-use mathlib.Core.Path.{_≡_, sym, ap, _∙_}
+use mathlib.Core.Path.{_≡_, refl, sym, ap, _∙_}
 use Prim.Native.Nat.{_+_, _*_, _≤_, _<_}
 use native.Mathlib.Omega.{arith}
 use borrow.Author.Needs.{needs}
@@ -28,7 +28,7 @@ found c =
 
 returns : tie.Need-returns
 unfolding setOutcome
-returns c = slice-refused (found (c .before)) (c .if1 .taken) _ _
+returns c = slice-refused (found (c .before)) (c .if1 .taken) tt _ _
 
 -- no cause applies
 none : (c : tie.Else1)
@@ -133,7 +133,7 @@ returns-2 c =
     let first = d .before .before .before .index in
     let second = d .before .before .index2 in
     let start = d .before .start in
-    slice-done (none e)
+    slice-done (none e) refl
     (set-place (a .w) (a .h) (a .level) (first .result) (second .result) (row .result) (start .result)
     (d .places .result) (a .numbers .now) (called .set-in-part .last .0) (a .i) (a .j) (row .ensures .0)
     (start .ensures .0) (first .ensures .0 ∙ ap index (toZ-ofZ w64 (a .i) (s .fits .i)))

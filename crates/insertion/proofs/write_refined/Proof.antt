@@ -5,7 +5,7 @@ use native.Mathlib.Omega.{arith}
 use borrow.Author.Needs.{needs}
 use lib.ListN.{length}
 use Rattle.surface.specs.Table.{slots}
-use Rattle.surface.proofs.Refusals.{outputs}
+use Rattle.surface.proofs.RefusalLaws.{outputs}
 use Rattle.fields.proofs.PutLaws.{put-front}
 use Rattle.answers.proofs.AnswerLaws.{table-refused, table-done}
 use Rattle.insertion.proofs.write_refined.Statement.{statement}

@@ -1,5 +1,5 @@
 -- Each way out of `activity_of` gives the outcome of document 01.
-use mathlib.Core.Path.{_≡_, sym, ap, ap₂, _∙_}
+use mathlib.Core.Path.{_≡_, refl, sym, ap, ap₂, _∙_}
 use mathlib.Core.Bool.{cond}
 use mathlib.Core.List.{List}
 use Prim.Native.Nat.{ℕ, _*_, _≤_}
@@ -34,7 +34,7 @@ marks W H t L rows new hW hH e m =
 
 returns : tie.Need-returns
 unfolding activityOutcome activityCause
-returns c = slice-refused (first (c .before .region-cause .ensures .0) (c .if1 .taken) _) (c .if1 .taken) _ _
+returns c = slice-refused (first (c .before .region-cause .ensures .0) (c .if1 .taken) _) (c .if1 .taken) tt _ _
 
 -- past causes 1 and 2
 none : (c : tie.Else1)
@@ -49,7 +49,7 @@ painted c = c .before .region-cause .ensures .1 (c .if1 .left)
 
 returns-2 : tie.Need-returns-2
 unfolding activityOutcome activityCause
-returns-2 c = slice-refused (past (none (c .before)) (rw (lt-ltb 3 _ (c .if2 .taken)))) (λ z. omega arith) _ _
+returns-2 c = slice-refused (past (none (c .before)) (rw (lt-ltb 3 _ (c .if2 .taken)))) (λ z. omega arith) tt _ _
 
 places-requires : tie.Need-places-requires
 places-requires c κs =
@@ -64,7 +64,7 @@ returns-3 c =
     slice-refused
     (past (none (e .before))
     (rw (le-ltb 3 _ (e .if2 .left), ne-eqb _ _ (λ p. c .if3 .taken (p ∙ sym (c .before .places .ensures .0))))))
-    (λ z. omega arith) _ _
+    (λ z. omega arith) tt _ _
 
 -- past cause 16
 size : (c : tie.Else3)
@@ -107,7 +107,7 @@ returns-4 c =
     let a = e .before .before .before .before .before .before .args in
     let t = a .tree .now in
     let sides = region-none (a .w) (a .h) t (none (e .before)) in
-    slice-done (past (none (e .before)) (rw (le-ltb 3 _ (e .if2 .left), eq-eqb _ _ (size i))))
+    slice-done (past (none (e .before)) (rw (le-ltb 3 _ (e .if2 .left), eq-eqb _ _ (size i)))) refl
     (marks (a .w) (a .h) t (a .level) _ _ (sides .1) (sides .2) (painted (e .before)) (k .mark-level .ensures))
     (a .out .now)
 

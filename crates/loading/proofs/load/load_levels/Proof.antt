@@ -9,7 +9,7 @@ use lib.ListN.{length, drop}
 use Rattle.surface.specs.Table.{start, slots}
 use Rattle.surface.specs.Fields.{holds, lengthAt}
 use Rattle.surface.specs.TableFile.{levelFields}
-use Rattle.surface.proofs.Refusals.{levels-size}
+use Rattle.surface.proofs.FileRefusals.{levels-size}
 use Rattle.coefficients.proofs.Parts.{level-fits, part-length}
 use Rattle.rows.specs.Rows.{levelsOf}
 use Rattle.loading.proofs.JudgeLaws.{levels-none, levels-next}

@@ -1,0 +1,127 @@
+-- The refusals of file reading: each has one of its numbers, and what is not declined fills its slice.
+use mathlib.Core.Path.{_≡_, refl, _∙_, subst}
+use mathlib.Core.Bool.{Bool, true, not, _&&_}
+use mathlib.Core.List.{List, [], _∷_}
+use Prim.Native.Nat.{ℕ, zero, suc, _+_, _*_}
+use native.Mathlib.Nat.{mul-comm}
+use native.Mathlib.Omega.{arith}
+use lib.IntN.{ℤ}
+use lib.Dec.{leb, ltb, eqb, eqb·suc-zero}
+use lib.ListN.{length, getD, length-append}
+use Rattle.finite.proofs.Table.{length-grid}
+use Rattle.surface.specs.Sheet.{functions}
+use Rattle.surface.specs.Support.{activeCount}
+use Rattle.surface.specs.Table.{cause, _orElse_, treeOf, formed, levels, places, start, slots}
+use Rattle.surface.specs.Table.{limit}
+use Rattle.surface.specs.Fields.{Judged, declined, contains, unless, Part, holds, inPart, lengthAt, field}
+use Rattle.surface.specs.Fields.{checked, allWithin}
+use Rattle.surface.specs.TableFile.{sidesIn, goodSides, sidesField, treeField, loaded, levelLoaded}
+use Rattle.surface.specs.TableFile.{levelField, levelFields, Loaded, File, endCause, fileContents}
+use Rattle.surface.specs.TableFile.{fileOutcomeOf, fileOutcome}
+use Rattle.surface.specs.Demands.{among, WritesAllOrNothing}
+use Rattle.surface.proofs.RefusalLaws.{OneOf, one-or, one-cause}
+use Rattle.surface.proofs.RefusalLaws.{table-or-nothing}
+
+abbrev js-file : List ℕ
+js-file = 1 ∷ 2 ∷ 4 ∷ 12 ∷ 13 ∷ 14 ∷ 15 ∷ 16 ∷ 17 ∷ []
+
+-- a refusal has one of the numbers, and what is held has a property
+data Told (A : Type 0) (P : A → Type 0) : Judged A → Type 0 where
+  bad : {n : ℕ} → among n js-file ≡ true → Told A P (declined n)
+  good : {a : A} → P a → Told A P (contains a)
+
+positive : (c : ℕ) → OneOf (suc c) js-file → among (suc c) js-file ≡ true
+positive c o = rw (eqb·suc-zero c) at o
+
+module _ {A : Type 0} (P : A → Type 0) where
+  told-unless : (c : ℕ) (j : Judged A) → OneOf c js-file → Told A P j → Told A P (unless c j)
+  told-unless zero j o h = h
+  told-unless (suc c) j o h = bad (positive c o)
+
+  told-in : {B : Type 0} (Q : Part B → Type 0) (j : Judged (Part B)) (f : B → List ℕ → Judged A) → Told (Part B) Q j
+      → ((p : Part B) → Q p → Told A P (f (p .content) (p .rest))) → Told A P (inPart j f)
+  told-in Q (declined n) f (bad m) h = bad m
+  told-in Q (contains p) f (good q) h = h p q
+
+told-field : (tag low high : ℕ) (s : List ℕ) → Told (Part (List ℕ)) (λ p. Unit) (field tag low high s)
+unfolding field
+told-field tag low high s =
+    let n = lengthAt s in
+    let b1 = ltb (length s) 3 in
+    let b2 = not (eqb (getD s 0 0) tag) in
+    let b3 = not (leb low n && leb n high) in
+    let b4 = ltb (length s) (3 + n) in
+    told-unless (λ p. Unit) (cause 12 b1 orElse cause 13 b2 orElse cause 14 b3 orElse cause 12 b4) _
+    (one-or (cause 12 b1) (cause 13 b2 orElse cause 14 b3 orElse cause 12 b4) js-file (one-cause 12 b1 js-file refl)
+    (one-or (cause 13 b2) (cause 14 b3 orElse cause 12 b4) js-file (one-cause 13 b2 js-file refl)
+    (one-or (cause 14 b3) (cause 12 b4) js-file (one-cause 14 b3 js-file refl) (one-cause 12 b4 js-file refl))))
+    (good tt)
+
+-- the contents of a field have a number of their own
+told-checked : {A : Type 0} (P : Part A → Type 0) (tag low high n : ℕ) (ok : List ℕ → Bool) (of : List ℕ → A)
+    (s : List ℕ) → OneOf n js-file → ((b rest : List ℕ) → P (record { content = of b; rest = rest }))
+    → Told (Part A) P (checked (field tag low high s) n ok of)
+told-checked P tag low high n ok of s m h =
+    told-in P (λ p. Unit) (field tag low high s) _ (told-field tag low high s)
+    λ p u. told-unless P (cause n (not (ok (p .content)))) _ (one-cause n (not (ok (p .content))) js-file m)
+    (good (h (p .content) (p .rest)))
+
+-- the levels below n fill their part of the slice
+abbrev Fills : ℕ → ℕ → ℕ → Part (List ℤ) → Type 0
+Fills W H n p = length (p .content) ≡ start W H n
+
+told-levels : (W H : ℕ) (lev : ℕ → ℕ → ℕ) (n : ℕ) (s : List ℕ)
+    → Told (Part (List ℤ)) (Fills W H n) (levelFields W H lev n s)
+unfolding levelFields levelField start
+told-levels W H lev zero s = good refl
+told-levels W H lev (suc L) s =
+    let k = activeCount W H lev L in
+    let sized : Part (List ℤ) → Type 0 = λ p. length (p .content) ≡ places W H L in
+    told-in (Fills W H (suc L)) (Fills W H L) (levelFields W H lev L s) _ (told-levels W H lev L s)
+    λ before e. told-in (Fills W H (suc L)) sized (levelField W H lev L (before .rest)) _
+    (told-checked sized (16 + L) (5 * k) (5 * k) 4 (allWithin (limit L) k) (levelLoaded W H lev L) (before .rest) refl
+    λ b rest. length-grid (functions W L) (functions H L) (loaded W H lev L b)
+    ∙ mul-comm (functions H L) (functions W L))
+    λ p q. good (length-append (before .content) (p .content) ∙ omega (arith, e, q))
+
+pub levels-size : (W H : ℕ) (lev : ℕ → ℕ → ℕ) (n : ℕ) (s : List ℕ) (cs : List ℤ) (rest : List ℕ)
+    → levelFields W H lev n s ≡ holds cs rest → length cs ≡ start W H n
+levels-size W H lev n s cs rest e = go (levelFields W H lev n s) (told-levels W H lev n s) e
+  where
+    go : (j : Judged (Part (List ℤ))) → Told (Part (List ℤ)) (Fills W H n) j → j ≡ holds cs rest
+        → length cs ≡ start W H n
+    go (declined m) t e = absurd (let z : _≡_ {A = ℕ} 0 1 = cc in omega arith)
+    go (contains p) (good h) e =
+        let same : p ≡ record { content = cs; rest = rest } = cc in subst (Fills W H n) same h
+
+-- a file that is not declined fills its slice
+told-file : (s : List ℕ) → Told Loaded (λ f. length (f .numbers) ≡ slots (f .W) (f .H)) (fileContents s)
+unfolding fileContents sidesField treeField
+told-file s =
+    let filled : Loaded → Type 0 = λ f. length (f .numbers) ≡ slots (f .W) (f .H) in
+    told-in filled (λ p. Unit) (sidesField s) _
+    (told-checked (λ p. Unit) 1 2 2 1 (λ b. goodSides (sidesIn b)) sidesIn s refl λ b rest. tt)
+    λ p u.
+    let W = p .content .W in
+    let H = p .content .H in
+    told-in filled (λ p. Unit) (treeField W H (p .rest)) _
+    (told-checked (λ p. Unit) 2 1 1365 2 (λ t. formed W H (treeOf t)) (λ t. t) (p .rest) refl λ b rest. tt)
+    λ t v. told-in filled (Fills W H 4) (levelFields W H (levels (t .content)) 4 (t .rest)) _
+    (told-levels W H (levels (t .content)) 4 (t .rest))
+    λ cs h. told-unless filled (endCause (cs .rest)) _ (one-cause 15 (ltb 0 (length (cs .rest))) js-file refl) (good h)
+
+pub file-refusals : (s treeOut : List ℕ) (numbersOut : List ℤ)
+    → WritesAllOrNothing js-file (fileOutcome s treeOut numbersOut) treeOut numbersOut
+unfolding fileOutcome
+file-refusals s treeOut numbersOut = go (fileContents s) (told-file s)
+  where
+    go : (f : File) → Told Loaded (λ f. length (f .numbers) ≡ slots (f .W) (f .H)) f
+        → WritesAllOrNothing js-file (fileOutcomeOf f treeOut numbersOut) treeOut numbersOut
+    go (declined n) (bad h) =
+        record {
+          number = λ m e. let same : n ≡ m = cc in subst (λ k. among k js-file ≡ true) same h;
+          refusal = λ m e. (refl, refl);
+          lengths = (refl, refl);
+        }
+    go (contains f) (good h) =
+        table-or-nothing js-file 0 (f .W) (f .H) _ (f .tree) (f .numbers) treeOut numbersOut refl refl refl h
