@@ -1,6 +1,4 @@
-// Sides, the places of a level, where its part of the coefficients' slice starts, and its limit.
-pub mod fill;
-
+// Sides, the places of a level, where its part of the coefficients' slice starts, its limit, and a slice filled.
 ghost use mathlib.Core.Path.{_≡_};
 ghost use mathlib.Core.Bool.{_&&_};
 ghost use Prim.Native.Nat.{ℕ, _≤_, _<_};
@@ -10,7 +8,7 @@ ghost use Rattle.surface.specs.Table as Table;
 ghost use Rattle.surface.specs.Table.{cause, _orElse_};
 ghost use Rattle.surface.specs.Calls.{lengthCause};
 ghost use lib.IntN.{pos, natAbs};
-ghost use lib.ListN.{length};
+ghost use lib.ListN.{length, replicate};
 
 // A side of a sheet is 1 to 8 cells.
 pub fn good_side(n: usize) -> bool
@@ -115,4 +113,16 @@ pub fn outputs_cause(w: usize, h: usize, bytes: usize, tree_out: &[u8], numbers_
         return 17;
     }
     0
+}
+
+// Fills a slice with one number.
+pub fn fill(s: &mut [i64], number: i64)
+    ensures { λ r. ⌜ now (s .exit) ≡ replicate (length (now (s .entry))) number ⌝ }
+{
+    let n = s.len();
+    let mut i = 0;
+    while i < n {
+        s[i] = number;
+        i += 1;
+    }
 }

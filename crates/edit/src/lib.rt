@@ -33,8 +33,8 @@ fn spread(numbers: &mut [i64], coarse: usize, number: i64)
     ensures { λ r. ⌜ now (numbers .exit)
         ≡ replicate coarse number ++ replicate (length (now (numbers .entry)) - coarse) (pos 0) ⌝ }
 {
-    coefficients::fill::fill(&mut numbers[0..coarse], number);
-    coefficients::fill::fill(&mut numbers[coarse..], 0);
+    coefficients::fill(&mut numbers[0..coarse], number);
+    coefficients::fill(&mut numbers[coarse..], 0);
 }
 
 // A fresh table: the tree is the one byte 0, and all level 0 coefficients are one number.

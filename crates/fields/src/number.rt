@@ -34,7 +34,7 @@ fn unsigned_at(body: &[u8], k: usize) -> usize
 }
 
 // The k-th number of a body.
-pub fn number_at(body: &[u8], k: usize) -> i64
+pub fn read(body: &[u8], k: usize) -> i64
     requires { ⌜ 5 * k + 5 ≤ length (now body) ⌝ }
     ensures { λ r. ⌜ r ≡ numberAt (now (body .entry)) k ⌝ }
 {

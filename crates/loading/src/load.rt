@@ -37,7 +37,7 @@ fn load_row(
     while a < n {
         let mut c: i64 = 0;
         if activity::is_marked(marks, a, e) {
-            c = fields::number::number_at(body, at);
+            c = fields::number::read(body, at);
             at += 1;
         }
         row[a] = c;
@@ -54,7 +54,7 @@ pub fn load_level(body: &[u8], part: &mut [i64], rows: &[u32; 96], w: usize, h: 
 {
     // A level with no active function.
     if body.len() == 0 {
-        coefficients::fill::fill(part, 0);
+        coefficients::fill(part, 0);
         return;
     }
     let n = coefficients::functions(w, level);

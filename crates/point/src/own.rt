@@ -29,7 +29,14 @@ fn in_part(part: &[i64], n: usize, a: usize, b: usize) -> [[i64; 4]; 4]
 }
 
 // Those of a level.
-pub fn own(numbers: &[i64], w: usize, h: usize, level: usize, a: usize, b: usize) -> [[i64; 4]; 4]
+pub fn of_level(
+    numbers: &[i64],
+    w: usize,
+    h: usize,
+    level: usize,
+    a: usize,
+    b: usize,
+) -> [[i64; 4]; 4]
     requires { ⌜ (w ≤ 8) × (h ≤ 8) × (level ≤ 3) × (a + 3 < functions w level) × (b + 3 < functions h level)
         × (length (now numbers) ≡ slots w h) ⌝ }
     ensures { λ x. ⌜ OwnOf w h level (now (numbers .entry)) a b x ⌝ }

@@ -46,7 +46,7 @@ pub fn coarsest(numbers: &[i64], w: usize, h: usize, u: usize, v: usize) -> [[i6
 {
     let a = super::cell::cell_of(w, 0, u);
     let b = super::cell::cell_of(h, 0, v);
-    super::own::own(numbers, w, h, 0, a, b)
+    super::own::of_level(numbers, w, h, 0, a, b)
 }
 
 // The patch of a level, from that of the level before it.
@@ -67,7 +67,7 @@ pub fn finer(
 {
     let a = super::cell::cell_of(w, level, u);
     let b = super::cell::cell_of(h, level, v);
-    let own = super::own::own(numbers, w, h, level, a, b);
+    let own = super::own::of_level(numbers, w, h, level, a, b);
     let inside = activity::near::near_region(rows, w, h, level, a, b);
     let coarse = patch::subdivide(p, a % 2, b % 2);
     choose_all(inside, own, coarse)

@@ -85,8 +85,8 @@ left c =
     let all = before-next (a .w) (a .h) (a .level) (a .b) (levelsOf (a .rows .now)) in
     omega (arith, l .loop .inv .2, s .pre .6, s .pre .7, all, ap (λ n. count n (on s)) (s .pre .5), more)
 
-number-at-requires : tie.Need-number-at-requires Inv-loop μ-loop
-number-at-requires c κs = left c
+read-requires : tie.Need-read-requires Inv-loop μ-loop
+read-requires c κs = left c
 
 add-at : tie.Need-add-at Inv-loop μ-loop
 add-at c = omega (arith, left (c .before))
@@ -145,5 +145,5 @@ pub load-row-spec : {M : Type 1} → statement M
 load-row-spec =
     tie.close
     (tie.spec Inv-loop μ-loop (λ c κs. search needs) (λ c κs. search needs) loop-holds is-marked-requires
-    number-at-requires add-at (λ c. omega arith) (λ c. omega arith) (λ c. omega arith) (λ c. omega arith) loop-again
+    read-requires add-at (λ c. omega arith) (λ c. omega arith) (λ c. omega arith) (λ c. omega arith) loop-again
     same-length returns)

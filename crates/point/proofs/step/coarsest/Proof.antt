@@ -12,7 +12,7 @@ unfolding patch
 returns c = λ rows k l hk hl.
     let d = c .before in
     let a = d .before .before .args in
-    c .own .ensures k l hk hl
+    c .of-level .ensures k l hk hl
     ∙ ap₂ (λ i j. coefficients (a .w) (a .h) (a .numbers .now) 0 (i + k) (j + l)) (d .before .cell-of .ensures .0)
     (d .cell-of2 .ensures .0)
 

@@ -22,7 +22,7 @@ returns c = λ k l hk hl.
     ∙ next-entry (a .w) (a .h) (levelsOf (a .rows .now)) (coefficients (a .w) (a .h) (a .numbers .now)) (a .u) (a .v)
     (a .level - 1) (a .level) k l (omega arith) (entry (a .p)) (cells .before .cell-of .result)
     (cells .cell-of2 .result) _ hk hl (cells .before .cell-of .ensures .0) (cells .cell-of2 .ensures .0)
-    (s .pre .10) (near .near-region .ensures k l hk hl) (own .own .ensures k l hk hl)
+    (s .pre .10) (near .near-region .ensures k l hk hl) (own .of-level .ensures k l hk hl)
     (d .subdivide .ensures k l hk hl)
 
 pub finer-spec : {M : Type 1} → statement M

@@ -7,8 +7,8 @@ use borrow.Author.Needs.{needs}
 use Rattle.activity.proofs.WindowLaws.{functions-le}
 use Rattle.coefficients.proofs.Parts.{level-fits, part-length}
 use Rattle.point.proofs.PointLaws.{rows-fit, level-own}
-use Rattle.point.proofs.own.own.Statement.{statement}
-use Rattle.point.proofs.own.own.Tie as tie
+use Rattle.point.proofs.own.of_level.Statement.{statement}
+use Rattle.point.proofs.own.of_level.Tie as tie
 
 -- the level's part is inside the slice
 inside : (c : tie.After-places)
@@ -46,8 +46,8 @@ returns c = λ k l hk hl.
     (d .before .before .functions .result) (a .a) (a .b) (a .numbers .now) (d .before .start .ensures .0)
     (d .places .ensures .0) (d .before .before .functions .ensures .0) (s .pre .3) (s .pre .4) k l hk hl
 
-pub own-spec : {M : Type 1} → statement M
-own-spec =
+pub of-level-spec : {M : Type 1} → statement M
+of-level-spec =
     tie.close
     (tie.spec (λ c κs. search needs) (λ c κs. search needs) (λ c κs. search needs) (λ c. search needs)
     (λ c. search needs) (λ c. search needs) (λ c. search needs) part-in-part-end in-part-requires returns)

@@ -8,8 +8,8 @@ use mir.Val.{toZ, ofZ}
 use mir.ValLaws.{toZ-ofZ}
 use Rattle.finite.proofs.Table.{table-const}
 use Rattle.finite.proofs.Written.{written, written-none, written-more, written-all}
-use Rattle.coefficients.proofs.fill.fill.Statement.{statement}
-use Rattle.coefficients.proofs.fill.fill.Tie as tie
+use Rattle.coefficients.proofs.fill.Statement.{statement}
+use Rattle.coefficients.proofs.fill.Tie as tie
 
 abbrev Inv-loop : tie.InvT-loop
 Inv-loop s₀ number n i₀ s i = (i ≤ n) × (length s ≡ n) × (s ≡ written i (λ k. toZ w64 number) s₀)
