@@ -2,7 +2,7 @@
 use mathlib.Core.Bool.{Bool, cond, _||_}
 use mathlib.Core.List.{List}
 use mathlib.Core.Path.{_≡_}
-use Prim.Native.Nat.{ℕ, _+_, _-_, _*_, _/_, _%_, _^_, _<_}
+use Prim.Native.Nat.{ℕ, zero, suc, _+_, _-_, _*_, _/_, _%_, _^_, _<_}
 use lib.Dec.{leb, ltb, eqb}
 use lib.ListN.{getD}
 use Rattle.finite.specs.Bits.{bit}
@@ -35,6 +35,15 @@ markAt e m a = bit (cond (eqb (a % 2) 0) (m .even) (m .odd)) (a / 2 * e)
 
 abbrev pub marked : ℕ → Marks → ℕ → Bool
 marked e m a = leb 1 (markAt e m a)
+
+-- a word with n bits set, each e places after the one before, from the lowest on
+unfoldable pub spread : ℕ → ℕ → ℕ
+spread e zero = 0
+spread e (suc n) = spread e n * 2 ^ e + 1
+
+-- the places of the first n functions
+abbrev pub Front : ℕ → ℕ → Marks → Type 0
+Front e n m = (m .even ≡ spread e ((n + 1) / 2)) × (m .odd ≡ spread e (n / 2))
 
 -- marks whose words begin 16 places before the sheet, from the places of functions 0 and 1 on: their supports start 3
 -- and 2 cells before it
