@@ -1,12 +1,12 @@
 -- The codes and values of an answer that a call is known to have given.
-use mathlib.Core.Path.{_≡_, refl, sym, ap, _∙_, subst}
-use Prim.Native.Nat.{ℕ}
+use mathlib.Core.Path.{_≡_, refl, sym, ap, ap₂, _∙_, subst}
+use Prim.Native.Nat.{ℕ, zero, suc}
 use lib.IntN.{ℤ}
 use lib.Ieee.{Float}
 use mir.Syntax.{w64}
 use mir.Val.{SFits, toZ, ofZ}
 use mir.ValLaws.{toZ-ofZ}
-use Rattle.surface.specs.Calls.{Answer, refused, gives, LeastLevel}
+use Rattle.surface.specs.Calls.{Answer, refused, gives, answer, LeastLevel}
 use Rattle.surface.specs.FloatReading.{FloatMeets}
 use Rattle.surface.specs.TableFile.{FileResult}
 use Rattle.answers.specs.Answers.{lengthAnswer}
@@ -48,6 +48,15 @@ pub table-refused : {o : Answer ℕ} {r : Length} {T N : Type 0} (n a : ℕ) →
     → (lengthAnswer r ≡ o) × T × N → NumberTold o n a a × T × N
 table-refused n a e p = (number-refused n a (ap lengthAnswer (sym e) ∙ p .0), p .1, p .2)
 
+-- the same of a call that writes bytes, with its one output
+pub bytes-given : {o : Answer ℕ} {r : Length} {B : Type 0} (n a : ℕ) → r ≡ Bytes n → (lengthAnswer r ≡ o) × B
+    → NumberTold o 0 a n × B
+bytes-given n a e p = (number-given n a (ap lengthAnswer (sym e) ∙ p .0), p .1)
+
+pub bytes-refused : {o : Answer ℕ} {r : Length} {B : Type 0} (n a : ℕ) → r ≡ Refused n → (lengthAnswer r ≡ o) × B
+    → NumberTold o n a a × B
+bytes-refused n a e p = (number-refused n a (ap lengthAnswer (sym e) ∙ p .0), p .1)
+
 -- the exact outcome that an f64 reading meets is given or refused as the reading is
 pub watts-given : (o : Answer ℤ) (x old : Float) → FloatMeets o (gives x) → (0 ≡ codeOf o) × WattsAfter o old x
 watts-given (refused n) x old m = absurd m
@@ -64,3 +73,9 @@ file-given n W H a b c e = subst (λ o. FileTold o 0 a n b W c H) e (refl, refl,
 
 pub file-refused : {o : Answer FileResult} (n a b c : ℕ) → refused n ≡ o → FileTold o n a a b b c c
 file-refused n a b c e = subst (λ o. FileTold o n a a b b c c) e (refl, refl, refl, refl)
+
+-- a code and the value beside it, told of the outcome by cause k, are that outcome: no refusal number is 0
+pub told : {A : Type 0} (k : ℕ) (a old new : A) (code : ℕ) → NumberTold (answer k a) code old new
+    → answer code new ≡ answer k a
+told zero a old new code p = ap₂ answer (p .0) (p .1)
+told (suc k) a old new code p = ap (λ m. answer m new) (p .0)

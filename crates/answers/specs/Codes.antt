@@ -48,6 +48,11 @@ WattsAfter (gives n) old new = Near (2 ^ 30) D n new
 abbrev pub SliceWritten : {A B : Type 0} → Done A B → ℕ → List B → Type 0
 SliceWritten o code slice = (code ≡ codeOf (o .result)) × (slice ≡ o .after)
 
+-- what a call that writes bytes and tells how many leaves: its code, the parameter that receives their number, and the
+-- buffer
+abbrev pub BytesWritten : Done ℕ ℕ → ℕ → ℕ → ℕ → List ℕ → Type 0
+BytesWritten o code length₀ length after = NumberTold (o .result) code length₀ length × (after ≡ o .after)
+
 -- what a call that writes a table leaves: its code, the parameter that receives the tree's length, and both outputs
 abbrev pub TableWritten : Written ℕ → ℕ → ℕ → ℕ → List ℕ → List ℤ → Type 0
 TableWritten o code treeLength₀ treeLength tree numbers =

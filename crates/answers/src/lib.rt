@@ -6,7 +6,7 @@ pub enum Outcome {
     Refused(u8),
 }
 
-// A call that writes a tree returns its length.
+// A call that writes a tree, or a file, returns its length.
 pub enum Length {
     Bytes(usize),
     Refused(u8),

@@ -1,7 +1,7 @@
 -- The definitions at work: the bench cases that compute outright and the further ones, so that a reader can hold them
 -- to document 01.
 use mathlib.Core.Path.{refl}
-use Rattle.finite.specs.Range.{sum, every, count, total, least, tableFrom, rowsFrom}
+use Rattle.finite.specs.Range.{sum, every, count, total, least, tableFrom, joined, rowsFrom}
 use Rattle.surface.specs.Sheet.{eighths}
 use Rattle.surface.specs.Quadtree.{bytes, parse, wellFormed, levelAt, regionTree, visits}
 use Rattle.surface.specs.Support.{leastUnder, activeInRow, activeCount, activeBefore}
@@ -16,10 +16,12 @@ use Rattle.surface.specs.Calls.{setOutcome, activityBytes, activityCause, activ
 use Rattle.surface.specs.Calls.{readingCause, exactOutcome, displayOutcome, costOutcome}
 use Rattle.surface.specs.Fields.{field, allWithin}
 use Rattle.surface.specs.TableFile.{sidesField, treeField, levelField, levelFields, fileContents, fileOutcome}
+use Rattle.surface.specs.TableFile.{levelBody, fileOf}
+use Rattle.surface.specs.Saving.{saveCause, saveOutcome}
 use Rattle.bench.specs.Bench.{Inserted, Visited, TwoByOne}
 use Rattle.bench.specs.Cases.{InsideCell, Children, Shortest, Longest, EastBox, LimitFirst, NewTree, Activity}
 use Rattle.bench.specs.Cases.{Sets, Fresh, LevelZero, SetsFine, Declined, LowestGiven, Costs, Files}
-use Rattle.bench.specs.Cases.{Heads, ContentsFirst}
+use Rattle.bench.specs.Cases.{SavedFiles, Heads, ContentsFirst}
 
 -- ---- of the bench sheet
 
@@ -122,6 +124,11 @@ unfolding fileOutcome fileContents sidesField treeField levelField levelFields f
     activeBefore allWithin total count every leastUnder least eighths levels levelAt parse wellFormed start tableFrom
     rowsFrom
 files = (refl, refl, refl, refl, refl, refl)
+
+pub saved-files : SavedFiles
+unfolding saveOutcome saveCause fileOf levelBody joined tableCause regionCause withinLimits passiveZero every leastUnder
+    least eighths levels levelAt parse wellFormed start coefficients
+saved-files = (refl, refl, refl, refl, refl)
 
 pub heads : Heads
 unfolding fileOutcome fileContents sidesField treeField levelField levelFields field parse wellFormed

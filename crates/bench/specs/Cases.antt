@@ -11,7 +11,8 @@ use Rattle.surface.specs.Patch.{patchReading}
 use Rattle.surface.specs.Calls.{refused, gives, freshOutcome, insertOutcome, setOutcome, activityOutcome}
 use Rattle.surface.specs.Calls.{leastOutcome, exactOutcome, displayOutcome, costOutcome, costOf}
 use Rattle.surface.specs.TableFile.{fileOutcome}
-use Rattle.bench.specs.Bench.{rows, zeros, S, flat, flat700, box, refined}
+use Rattle.surface.specs.Saving.{saveOutcome}
+use Rattle.bench.specs.Bench.{rows, zeros, S, carriedS, flat, flat700, box, refined}
 
 -- ---- readings
 
@@ -184,6 +185,26 @@ Files =
     × (fileOutcome fileS [] [] .result ≡ refused 16)
     × (fileOutcome fileS [] (replicate 211 (pos 7)) ≡ record
     { result = refused 17; tree = []; numbers = replicate 211 (pos 7) })
+
+-- The file of S with level 1 on the whole sheet: no number of level 0, five rows of -32,000 to 96,000 of level 1.
+abbrev pub fileRefined : List ℕ
+fileRefined =
+    (1 ∷ 0 ∷ 2 ∷ 1 ∷ 1 ∷ 2 ∷ 0 ∷ 13 ∷ [])
+    ++ (refined ++ ((16 ∷ 0 ∷ 0 ∷ 17 ∷ 0 ∷ 125 ∷ [])
+    ++ (rows 5
+    (255 ∷ 255 ∷ 255 ∷ 131 ∷ 0 ∷ 0 ∷ 0 ∷ 0 ∷ 0 ∷ 0 ∷ 0 ∷ 0 ∷ 0 ∷ 125 ∷ 0 ∷ 0 ∷ 0 ∷ 0 ∷ 250 ∷ 0 ∷ 0 ∷ 0 ∷ 1 ∷ 119 ∷ 0
+    ∷ [])
+    ++ (18 ∷ 0 ∷ 0 ∷ 19 ∷ 0 ∷ 0 ∷ []))))
+
+-- Document 02, "Saving a table": "The file's length is returned"; "bytes past the file are untouched"; 18 for an output
+-- that is one byte shorter, "judged last": 4 comes before it.
+abbrev pub SavedFiles : Type 0
+SavedFiles =
+    (saveOutcome 1 1 flat S (replicate 103 7) ≡ record { result = gives 101; after = fileS ++ (7 ∷ 7 ∷ []) })
+    × (saveOutcome 2 1 flat flat700 (replicate 121 7) ≡ record { result = gives 121; after = file700 })
+    × (saveOutcome 1 1 refined carriedS (replicate 158 7) ≡ record { result = gives 158; after = fileRefined })
+    × (saveOutcome 1 1 flat S (replicate 100 7) ≡ record { result = refused 18; after = replicate 100 7 })
+    × (saveOutcome 1 1 flat (pos 32001 ∷ zeros 210) (7 ∷ []) ≡ record { result = refused 4; after = 7 ∷ [] })
 
 -- "whole head, tag, length, whole body, contents"
 abbrev pub Heads : Type 0

@@ -81,8 +81,8 @@ fn row(
 // All corners of an acceptable table: v rising, within it u.
 fn table_text(tree: &[u8], numbers: &[i64], w: usize, h: usize, out: &mut [u8]) -> usize
     requires { ⌜ Acceptable w h (now tree) (now numbers) × (901 ≤ length (now out)) ⌝ }
-    ensures { λ r. ⌜ Put (tableText w h (now (tree .entry)) (now (numbers .entry))) 0 (now (out .entry)) r (now (out .exit))
-        × (r ≤ 901) ⌝ }
+    ensures { λ r. ⌜ Put (tableText w h (now (tree .entry)) (now (numbers .entry))) 0 (now (out .entry)) r
+        (now (out .exit)) × (r ≤ 901) ⌝ }
 {
     let mut rows = [0u32; 96];
     quadtree::walk::regions(tree, w, h, &mut rows);

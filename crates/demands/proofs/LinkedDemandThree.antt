@@ -10,17 +10,12 @@ use Rattle.surface.proofs.Demands.{linear-readings, bracketed-readings}
 use Rattle.demands.specs.DemandThree.{standing, ReadingStays}
 use Rattle.demands.proofs.Theorem.{list-moves-nothing}
 use Rattle.answers.specs.Codes.{codeOf, orGiven, itself, NumberTold}
+use Rattle.answers.proofs.CodeLaws.{told}
 use Rattle.demands.specs.LinkedPromises.{KilnExactPromise}
 use Rattle.demands.specs.LinkedDemandThree.{LinkedMade, kilnInsert, LinkedAsPromised}
 use Rattle.demands.specs.LinkedDemandThree.{leftByLinked, LinkedReadingStays}
 use Rattle.demands.specs.LinkedDemandThree.{LinearOfLinked, BracketedOfLinked, LinkedListsMoveNothing}
 use Rattle.demands.specs.LinkedDemandThree.{LinkedDemandThree}
-
--- a code and the value beside it, told of the outcome by cause k, are that outcome: no refusal number is 0
-told : {A : Type 0} (k : ℕ) (a old new : A) (code : ℕ) → NumberTold (answer k a) code old new
-    → answer code new ≡ answer k a
-told zero a old new code p = ap₂ answer (p .0) (p .1)
-told (suc k) a old new code p = ap (λ m. answer m new) (p .0)
 
 exact-told : (W H : ℕ) (c : Contents) (u v code : ℕ) (old n : ℤ) → KilnExactPromise W H c u v code old n
     → answer code n ≡ exactOutcome W H (c .tree) (c .numbers) u v

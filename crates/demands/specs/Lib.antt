@@ -1,4 +1,5 @@
 pub mod Promises
 pub mod DemandThree
 pub mod LinkedPromises
+pub mod FilePromises
 pub mod LinkedDemandThree

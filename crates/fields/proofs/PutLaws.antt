@@ -1,13 +1,15 @@
 -- Bytes put after bytes.
-use mathlib.Core.Path.{_≡_, refl, sym, ap, ap₂, _∙_}
+use mathlib.Core.Path.{_≡_, refl, sym, ap, ap₂, _∙_, subst}
 use mathlib.Core.List.{List, [], _∷_, _++_, append-assoc, append-nil}
-use Prim.Native.Nat.{ℕ, _+_, _-_, _≤_, _<_}
+use Prim.Native.Nat.{ℕ, _+_, _-_, _%_, _≤_, _<_}
 use native.Mathlib.Nat.{zero-add, le-refl}
 use native.Mathlib.Numerals.{add-one}
 use native.Mathlib.Omega.{arith}
 use lib.ListN.{length, take, drop, set, length-append, length-drop, take-append-drop, drop-of-length-le}
 use lib.Seq.{take-all, take-length, take-suc-set, drop-set-lt, drop-drop, paste, take-paste, drop-paste}
+use Rattle.finite.specs.Range.{joined}
 use Rattle.surface.specs.Calls as Calls
+use Rattle.surface.specs.Fields.{byteOf, fieldBytes}
 use Rattle.fields.specs.Put.{Put}
 
 pub put-nothing : (at r : ℕ) (o : List ℕ) → r ≡ at → Put [] at o r o
@@ -65,3 +67,39 @@ pub put-front : (tree o : List ℕ) (r : ℕ) (p : List ℕ) → Put tree 0 o r 
 put-front tree o r p h =
     sym (take-append-drop r p)
     ∙ ap₂ _++_ (h .1) (h .2 ∙ ap (λ n. drop n o) (h .0 ∙ zero-add (length tree)))
+
+-- the lowest byte of a number after what is put
+pub put-lowest : (a : List ℕ) (n at : ℕ) (o : List ℕ) (r : ℕ) (p : List ℕ) (s : ℕ) (q : List ℕ)
+    → Put a at o r p → Put (n % 256 ∷ []) r p s q → Put (a ++ byteOf 0 n ∷ []) at o s q
+put-lowest a n at o r p s q h k =
+    let e : n % 256 ≡ byteOf 0 n = omega arith in
+    put-both a (byteOf 0 n ∷ []) at o r p s q h (subst (λ b. Put (b ∷ []) r p s q) e k)
+
+-- ---- texts one after the other
+
+-- one more text after those before
+pub put-next : (n : ℕ) (f : ℕ → List ℕ) (text : List ℕ) (at : ℕ) (o : List ℕ) (r : ℕ) (p : List ℕ) (s : ℕ) (q : List ℕ)
+    → Put (joined n f) at o r p → Put text r p s q → text ≡ f n → Put (joined (n + 1) f) at o s q
+unfolding joined
+put-next n f text at o r p s q h k e =
+    rw (add-one n, ← e) (put-both (joined n f) text at o r p s q h k)
+
+-- no text yet
+pub put-none : (f : ℕ → List ℕ) (at : ℕ) (o : List ℕ) → Put (joined 0 f) at o at o
+unfolding joined
+put-none f at o = put-nothing at at o refl
+
+-- ---- fields
+
+-- a body after the head that tells its length
+pub put-field : (tag n : ℕ) (b : List ℕ) (at : ℕ) (o : List ℕ) (r : ℕ) (p : List ℕ) (s : ℕ) (q : List ℕ) → n ≡ length b
+    → Put (tag ∷ byteOf 1 n ∷ byteOf 0 n ∷ []) at o r p → Put b r p s q → Put (fieldBytes tag b) at o s q
+put-field tag n b at o r p s q e h k =
+    subst (λ n. Put (tag ∷ byteOf 1 n ∷ byteOf 0 n ∷ b) at o s q) e
+    (put-both (tag ∷ byteOf 1 n ∷ byteOf 0 n ∷ []) b at o r p s q h k)
+
+-- or nothing, after the head of an empty one
+pub put-empty : (tag n : ℕ) (b : List ℕ) (at : ℕ) (o : List ℕ) (r : ℕ) (p : List ℕ) → n ≡ length b → n ≡ 0
+    → Put (tag ∷ byteOf 1 n ∷ byteOf 0 n ∷ []) at o r p → Put (fieldBytes tag b) at o r p
+put-empty tag n [] at o r p e z h = put-field tag n [] at o r p r p e h (put-nothing r r p refl)
+put-empty tag n (x ∷ b) at o r p e z h = absurd (omega arith)

@@ -3,9 +3,10 @@ pub mod number;
 
 ghost use mathlib.Core.Path.{_≡_};
 ghost use mathlib.Core.Bool.{not};
-ghost use Prim.Native.Nat.{_+_, _*_, _≤_, _<_};
+ghost use mathlib.Core.List.{[], _∷_};
+ghost use Prim.Native.Nat.{_+_, _*_, _%_, _≤_, _<_};
 ghost use lib.ListN.{length, getD, drop};
-ghost use Rattle.surface.specs.Fields.{lengthAt, field};
+ghost use Rattle.surface.specs.Fields.{lengthAt, field, byteOf};
 ghost use Rattle.fields.specs.Positions.{between, bodyAt, partAt, ends};
 ghost use Rattle.fields.specs.Put.{Put};
 
@@ -80,4 +81,31 @@ pub fn put(text: &[u8], out: &mut [u8], at: usize) -> usize
     ensures { λ r. ⌜ Put (now (text .entry)) at (now (out .entry)) r (now (out .exit)) ⌝ }
 {
     at + bytes::copy(text, &mut out[at..])
+}
+
+// Puts one byte.
+pub fn put_byte(b: u8, out: &mut [u8], at: usize) -> usize
+    requires { ⌜ at + 1 ≤ length (now out) ⌝ }
+    ensures { λ r. ⌜ Put (b ∷ []) at (now (out .entry)) r (now (out .exit)) ⌝ }
+{
+    out[at] = b;
+    at + 1
+}
+
+// Puts the lowest byte of a number.
+fn put_low(n: usize, out: &mut [u8], at: usize) -> usize
+    requires { ⌜ at + 1 ≤ length (now out) ⌝ }
+    ensures { λ r. ⌜ Put (n % 256 ∷ []) at (now (out .entry)) r (now (out .exit)) ⌝ }
+{
+    put_byte((n % 256) as u8, out, at)
+}
+
+// Puts the head of a field with a body of n bytes.
+pub fn put_head(tag: u8, n: usize, out: &mut [u8], at: usize) -> usize
+    requires { ⌜ at + 3 ≤ length (now out) ⌝ }
+    ensures { λ r. ⌜ Put (tag ∷ byteOf 1 n ∷ byteOf 0 n ∷ []) at (now (out .entry)) r (now (out .exit)) ⌝ }
+{
+    let high = put_byte(tag, out, at);
+    let low = put_low(n >> 8, out, high);
+    put_low(n, out, low)
 }

@@ -4,7 +4,8 @@ ghost use Prim.Native.Nat.{_+_, _*_, _≤_, _<_};
 ghost use lib.Dec.{leb};
 ghost use lib.IntN.{natAbs};
 ghost use lib.ListN.{length};
-ghost use Rattle.surface.specs.Fields.{unsignedAt, numberAt, allWithin};
+ghost use Rattle.surface.specs.Fields.{unsignedAt, numberAt, allWithin, complement, numberBytes};
+ghost use Rattle.fields.specs.Put.{Put};
 
 // The bytes of a number.
 pub const SIZE: usize = 5;
@@ -71,4 +72,29 @@ pub fn within(body: &[u8], n: usize, most: usize) -> bool
         k += 1;
     }
     true
+}
+
+// A number as five bytes spell it: a negative one is the range less its size.
+fn spelled(number: i64) -> usize
+    requires { ⌜ natAbs number < 549755813888 ⌝ }
+    ensures { λ r. ⌜ (r ≡ complement number) × (r < 1099511627776) ⌝ }
+{
+    if number < 0 {
+        let size = (-1 - number) as usize + 1;
+        return RANGE - size;
+    }
+    number as usize
+}
+
+// Puts a number at a position of a lent buffer, and returns the position after it.
+pub fn put(number: i64, out: &mut [u8], at: usize) -> usize
+    requires { ⌜ (at + 5 ≤ length (now out)) × (natAbs number < 549755813888) ⌝ }
+    ensures { λ r. ⌜ Put (numberBytes number) at (now (out .entry)) r (now (out .exit)) ⌝ }
+{
+    let n = spelled(number);
+    let b = super::put_low(n >> 32, out, at);
+    let c = super::put_low(n >> 24, out, b);
+    let d = super::put_low(n >> 16, out, c);
+    let e = super::put_low(n >> 8, out, d);
+    super::put_low(n, out, e)
 }

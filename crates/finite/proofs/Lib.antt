@@ -5,6 +5,7 @@ pub mod Int
 pub mod Order
 pub mod Sum
 pub mod Table
+pub mod Joined
 pub mod Tests
 pub mod Weighted
 pub mod Signed

@@ -44,3 +44,9 @@ fits-pos e h = rw e (sfits-of h)
 -- the cast to an unsigned number
 pub cast-up : {z : ℤ} {m : ℕ} → z ≡ pos m → m < 2 ^ 63 → T (nonNeg z) × Fits w64 (natAbs z)
 cast-up {z} {m} e h = rw e (tt, omega arith)
+
+-- and what the machine reads back of it
+pub mirrored-back : (n : ℤ) → SFits w64 n → ltZ (toZ w64 (ofZ w64 n)) (pos 0) ≡ true
+    → toZ w64 (ofZ w64 (negsuc 0 -ℤ toZ w64 (ofZ w64 n))) ≡ pos (mag n)
+mirrored-back n f h =
+    ap (λ z. toZ w64 (ofZ w64 z)) (mirrored n f h) ∙ toZ-ofZ w64 (pos (mag n)) (sfits-of (f .sfits))

@@ -5,10 +5,10 @@ ghost use mathlib.Core.Path.{_≡_};
 ghost use Rattle.surface.specs.Table.{tableCause};
 ghost use Rattle.surface.specs.Calls.{leastOutcome, activityOutcome, freshOutcome, setOutcome};
 ghost use Rattle.surface.specs.Calls.{exactOutcome, displayOutcome, costOutcome};
-ghost use Rattle.surface.specs.TableFile.{fileOutcome};
 ghost use Rattle.answers.specs.Codes.{codeOf, NumberTold, LeastTold, WattsAfter};
-ghost use Rattle.answers.specs.Codes.{SliceWritten, TableWritten, FileWritten};
+ghost use Rattle.answers.specs.Codes.{SliceWritten, TableWritten};
 ghost use Rattle.demands.specs.LinkedPromises.{KilnInsertPromise, KilnExactPromise};
+ghost use Rattle.demands.specs.FilePromises.{KilnReadPromise, KilnWritePromise};
 
 // The least level under a box: `level` receives it, `visited` the number of tree nodes visited.
 #[no_mangle]
@@ -265,8 +265,7 @@ pub extern "C" fn kiln_read_file(
     w: &mut usize,
     h: &mut usize,
 ) -> u8
-    ensures { λ r. ⌜ FileWritten
-        (fileOutcome (now (file .entry)) (now («tree_out» .entry)) (now («numbers_out» .entry))) r
+    ensures { λ r. ⌜ KilnReadPromise (now (file .entry)) (now («tree_out» .entry)) (now («numbers_out» .entry)) r
         (now («tree_length» .entry)) (now («tree_length» .exit))
         (now (w .entry)) (now (w .exit)) (now (h .entry)) (now (h .exit))
         (now («tree_out» .exit)) (now («numbers_out» .exit)) ⌝ }
@@ -284,5 +283,28 @@ pub extern "C" fn kiln_read_file(
             0
         }
         answers::File::Refused(n) => n,
+    }
+}
+
+// Writes the file of a table; `length` receives the file's length.
+#[no_mangle]
+pub extern "C" fn kiln_write_file(
+    w: usize,
+    h: usize,
+    tree: &[u8],
+    numbers: &[i64],
+    file_out: &mut [u8],
+    length: &mut usize,
+) -> u8
+    ensures { λ r. ⌜ KilnWritePromise w h (record { tree = now (tree .entry); numbers = now (numbers .entry) })
+        (now («file_out» .entry)) r (now (length .entry)) (now (length .exit)) (now («file_out» .exit)) ⌝ }
+{
+    let r = saving::write_file(w, h, tree, numbers, file_out);
+    match r {
+        answers::Length::Bytes(n) => {
+            *length = n;
+            0
+        }
+        answers::Length::Refused(n) => n,
     }
 }

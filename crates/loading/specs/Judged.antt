@@ -6,11 +6,9 @@ use lib.Dec.{ltb}
 use lib.IntN.{ℤ}
 use lib.ListN.{length, getD, take, drop}
 use Rattle.surface.specs.Table.{cause, _orElse_, slots}
-use Rattle.surface.specs.Calls.{TableMeets, lengthCause}
+use Rattle.surface.specs.Calls.{lengthCause}
 use Rattle.surface.specs.Fields.{Judged, declined, contains, unless, Part, holds, inPart}
-use Rattle.surface.specs.TableFile.{Sides, treeField, levelFields, endCause, fileContents, fileOutcome}
-use Rattle.answers.specs.declared.File as Answers
-use Rattle.answers.specs.Answers.{fileAnswer}
+use Rattle.surface.specs.TableFile.{Sides, treeField, levelFields, endCause, fileContents}
 use Rattle.fields.specs.declared.Field as F
 use Rattle.fields.specs.declared.Field.{Field}
 use Rattle.rows.specs.Rows.{levelsOf, Nested, levelRows}
@@ -79,8 +77,3 @@ levelsHold file from W H rows numbers =
 abbrev pub lastly : ℕ → ℕ → ℕ → ℕ → List ℕ → List ℤ → ℕ
 lastly after W H bytes treeOut numbersOut =
     after orElse lengthCause (slots W H) numbersOut orElse cause 17 (ltb (length treeOut) bytes)
-
--- an answer and the outputs are the outcome of reading the file
-abbrev pub Reads : List ℕ → List ℕ → List ℤ → Answers.File → List ℕ → List ℤ → Type 0
-Reads file tree numbers r treeAfter numbersAfter =
-    TableMeets (fileOutcome file tree numbers) (fileAnswer r) treeAfter numbersAfter

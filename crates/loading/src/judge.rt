@@ -7,27 +7,18 @@ ghost use Rattle.surface.specs.TableFile.{levelField, levelFields, endCause};
 ghost use Rattle.rows.specs.Rows.{levelsOf, Nested};
 ghost use Rattle.loading.specs.Judged.{treeJudged, headJudged, judgedAs};
 
-// "tag 1, W and H, a byte each; tag 2, the tree; tags 16 to 19, the active coefficients of levels 0 to 3"
-const SIDES_TAG: u8 = 1;
-
-const TREE_TAG: u8 = 2;
-
-const LEVEL_TAG: u8 = 16;
-
-pub const LEVELS: usize = 4;
-
-// The bytes of the sides.
-const SIDES: usize = 2;
-
-// "Tag 2's length is 1 to 1,365."
-const LONGEST_TREE: usize = 1365;
-
 // The field of the tree, on a sheet with these sides, and the rows of its regions.
 fn tree_judge(file: &[u8], w: usize, h: usize, rows: &mut [u32; 96]) -> Field
     requires { ⌜ (w ≤ 8) × (h ≤ 8) × (5 ≤ length (now file)) ⌝ }
     ensures { λ r. ⌜ treeJudged r (now (file .entry)) w h (now (rows .exit)) ⌝ }
 {
-    let f = fields::field_at(file, super::TREE_FIELD, TREE_TAG, 1, LONGEST_TREE);
+    let f = fields::field_at(
+        file,
+        super::TREE_FIELD,
+        tablefile::TREE_TAG,
+        1,
+        tablefile::LONGEST_TREE,
+    );
     let Field::Body(end) = f else {
         return f;
     };
@@ -41,7 +32,13 @@ fn tree_judge(file: &[u8], w: usize, h: usize, rows: &mut [u32; 96]) -> Field
 pub fn head_judge(file: &[u8], rows: &mut [u32; 96]) -> Field
     ensures { λ r. ⌜ headJudged r (now (file .entry)) (now (rows .exit)) ⌝ }
 {
-    let sides = fields::field_at(file, 0, SIDES_TAG, SIDES, SIDES);
+    let sides = fields::field_at(
+        file,
+        0,
+        tablefile::SIDES_TAG,
+        tablefile::SIDES,
+        tablefile::SIDES,
+    );
     let Field::Body(_) = sides else {
         return sides;
     };
@@ -61,7 +58,7 @@ fn level_judge(file: &[u8], at: usize, rows: &[u32; 96], w: usize, h: usize, lev
 {
     let count = activity::count::active_count(rows, w, h, level);
     let n = fields::number::SIZE * count;
-    let f = fields::field_at(file, at, LEVEL_TAG + level as u8, n, n);
+    let f = fields::field_at(file, at, tablefile::LEVEL_TAG + level as u8, n, n);
     let Field::Body(end) = f else {
         return f;
     };
@@ -81,7 +78,7 @@ pub fn levels_judge(file: &[u8], from: usize, rows: &[u32; 96], w: usize, h: usi
 {
     let mut at = from;
     let mut level = 0;
-    while level < LEVELS {
+    while level < tablefile::LEVELS {
         let f = level_judge(file, at, rows, w, h, level);
         let Field::Body(end) = f else {
             return f;

@@ -6,11 +6,10 @@ use fields::Field;
 ghost use mathlib.Core.Path.{_≡_};
 ghost use Prim.Native.Nat.{_≤_};
 ghost use lib.ListN.{drop};
-ghost use Rattle.surface.specs.Calls.{TableMeets};
-ghost use Rattle.surface.specs.TableFile.{levelFields, fileOutcome};
-ghost use Rattle.answers.specs.Answers.{fileAnswer};
+ghost use Rattle.surface.specs.TableFile.{levelFields};
+ghost use Rattle.demands.specs.FilePromises.{ReadPromise};
 ghost use Rattle.rows.specs.Rows.{levelsOf};
-ghost use Rattle.loading.specs.Judged.{sheetW, sheetH, Head, endsAt, lastly, Reads};
+ghost use Rattle.loading.specs.Judged.{sheetW, sheetH, Head, endsAt, lastly};
 
 // Where the sides stand in a file: after the first head.
 pub const W: usize = fields::HEAD;
@@ -55,7 +54,7 @@ fn fill(
 ) -> answers::File
     requires { ⌜ Head (now file) end from w h (now rows)
         × endsAt (now file) last (levelFields w h (levelsOf (now rows)) 4 (drop from (now file))) ⌝ }
-    ensures { λ r. ⌜ Reads (now (file .entry)) (now («tree_out» .entry)) (now («numbers_out» .entry)) r
+    ensures { λ r. ⌜ ReadPromise (now (file .entry)) (now («tree_out» .entry)) (now («numbers_out» .entry)) r
         (now («tree_out» .exit)) (now («numbers_out» .exit)) ⌝ }
 {
     let bytes = end - TREE;
@@ -84,7 +83,7 @@ fn read_levels(
     numbers_out: &mut [i64],
 ) -> answers::File
     requires { ⌜ Head (now file) end from (sheetW (now file)) (sheetH (now file)) (now rows) ⌝ }
-    ensures { λ r. ⌜ Reads (now (file .entry)) (now («tree_out» .entry)) (now («numbers_out» .entry)) r
+    ensures { λ r. ⌜ ReadPromise (now (file .entry)) (now («tree_out» .entry)) (now («numbers_out» .entry)) r
         (now («tree_out» .exit)) (now («numbers_out» .exit)) ⌝ }
 {
     let w = file[W] as usize;
@@ -98,9 +97,8 @@ fn read_levels(
 
 // Reads a table file into a tree buffer and a coefficient slice, or refuses it and writes nothing.
 pub fn read_file(file: &[u8], tree_out: &mut [u8], numbers_out: &mut [i64]) -> answers::File
-    ensures { λ r. ⌜ TableMeets
-        (fileOutcome (now (file .entry)) (now («tree_out» .entry)) (now («numbers_out» .entry)))
-        (fileAnswer r) (now («tree_out» .exit)) (now («numbers_out» .exit)) ⌝ }
+    ensures { λ r. ⌜ ReadPromise (now (file .entry)) (now («tree_out» .entry)) (now («numbers_out» .entry)) r
+        (now («tree_out» .exit)) (now («numbers_out» .exit)) ⌝ }
 {
     let mut rows = [0u32; 96];
     let f = judge::head_judge(file, &mut rows);

@@ -84,7 +84,7 @@ pub fn load_levels(
 {
     let mut at = from;
     let mut level = 0;
-    while level < super::judge::LEVELS {
+    while level < tablefile::LEVELS {
         let body = at + fields::HEAD;
         let end = body + fields::length_at(file, at);
         let first = coefficients::start(w, h, level);

@@ -5,15 +5,18 @@ use mathlib.Core.List.{[], _∷_}
 use Prim.Native.Nat.{ℕ, _+_, _*_, _^_}
 use lib.IntN.{pos, negℤ, _-ℤ_}
 use lib.Dec.{leb, ltb}
-use lib.ListN.{replicate}
-use Rattle.finite.specs.Range.{sum, least, tableFrom}
+use lib.ListN.{drop, replicate}
+use Rattle.finite.specs.Range.{sum, every, least, tableFrom, joined}
 use Rattle.surface.specs.Sheet.{Box, eighths}
-use Rattle.surface.specs.Quadtree.{leaf, split, bytes, regionTree, visits}
+use Rattle.surface.specs.Quadtree.{leaf, split, bytes, parse, wellFormed, levelAt, regionTree, visits}
 use Rattle.surface.specs.Support.{leastUnder, active}
 use Rattle.surface.specs.Spline.{cellOf, piece, splineAt}
 use Rattle.surface.specs.Truncation.{weight, truncated}
 use Rattle.surface.specs.Carry.{raised, carried}
+use Rattle.surface.specs.Table.{levels, start, coefficients, withinLimits, passiveZero, regionCause, tableCause}
 use Rattle.surface.specs.Calls.{wholeWatts}
+use Rattle.surface.specs.TableFile.{levelBody, fileOf}
+use Rattle.surface.specs.Saving.{saveCause, saveOutcome}
 
 -- ---- the far edge
 
@@ -87,3 +90,17 @@ pub rounded : (wholeWatts (negℤ (pos (18 * 2 ^ 42))) ≡ pos 0)
     × (wholeWatts (pos (18 * 2 ^ 42)) ≡ pos 1)
 unfolding wholeWatts
 rounded = (refl, refl, refl, refl)
+
+-- ---- saving
+
+-- 18 is "judged last": a coefficient past its limit comes before an output that is too short
+pub eighteen-last : saveCause 1 1 (0 ∷ []) (pos 32001 ∷ replicate 210 (pos 0)) [] ≡ 4
+unfolding saveCause tableCause regionCause withinLimits passiveZero every leastUnder least eighths levels levelAt parse
+    wellFormed start coefficients fileOf levelBody joined
+eighteen-last = refl
+
+-- "bytes past the file are untouched": the file of a 1 by 1 table of zeros has 101
+pub past-the-file : drop 101 (saveOutcome 1 1 (0 ∷ []) (replicate 211 (pos 0)) (replicate 103 7) .after) ≡ 7 ∷ 7 ∷ []
+unfolding saveOutcome saveCause tableCause regionCause withinLimits passiveZero every leastUnder least eighths levels
+    levelAt parse wellFormed start coefficients fileOf levelBody joined
+past-the-file = refl

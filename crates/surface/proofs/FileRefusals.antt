@@ -1,26 +1,30 @@
--- The refusals of file reading: each has one of its numbers, and what is not declined fills its slice.
+-- The refusals of file reading and of saving: each has one of the call's numbers; what is not declined fills its slice.
 use mathlib.Core.Path.{_≡_, refl, _∙_, subst}
 use mathlib.Core.Bool.{Bool, true, not, _&&_}
 use mathlib.Core.List.{List, [], _∷_}
-use Prim.Native.Nat.{ℕ, zero, suc, _+_, _*_}
+use Prim.Native.Nat.{ℕ, zero, suc, _+_, _*_, _≤_}
 use native.Mathlib.Nat.{mul-comm}
 use native.Mathlib.Omega.{arith}
 use lib.IntN.{ℤ}
 use lib.Dec.{leb, ltb, eqb, eqb·suc-zero}
 use lib.ListN.{length, getD, length-append}
+use borrow.Author.Tests.{ltb-false}
 use Rattle.finite.proofs.Table.{length-grid}
 use Rattle.surface.specs.Sheet.{functions}
 use Rattle.surface.specs.Support.{activeCount}
 use Rattle.surface.specs.Table.{cause, _orElse_, treeOf, formed, levels, places, start, slots}
-use Rattle.surface.specs.Table.{limit}
+use Rattle.surface.specs.Table.{limit, tableCause}
+use Rattle.surface.specs.Calls.{put}
 use Rattle.surface.specs.Fields.{Judged, declined, contains, unless, Part, holds, inPart, lengthAt, field}
 use Rattle.surface.specs.Fields.{checked, allWithin}
 use Rattle.surface.specs.TableFile.{sidesIn, goodSides, sidesField, treeField, loaded, levelLoaded}
 use Rattle.surface.specs.TableFile.{levelField, levelFields, Loaded, File, endCause, fileContents}
-use Rattle.surface.specs.TableFile.{fileOutcomeOf, fileOutcome}
-use Rattle.surface.specs.Demands.{among, WritesAllOrNothing}
-use Rattle.surface.proofs.RefusalLaws.{OneOf, one-or, one-cause}
-use Rattle.surface.proofs.RefusalLaws.{table-or-nothing}
+use Rattle.surface.specs.TableFile.{fileOutcomeOf, fileOutcome, fileOf}
+use Rattle.surface.specs.Saving.{saveCause, saveOutcome}
+use Rattle.surface.specs.Demands.{among, WritesAllOrNothing, WritesSliceOrNothing}
+use Rattle.surface.proofs.RefusalLaws.{OneOf, one-or, one-cause, one-table, put-length}
+use Rattle.surface.proofs.RefusalLaws.{slice-or-nothing, table-or-nothing}
+use Rattle.surface.proofs.Causes.{orElse-none, cause-off}
 
 abbrev js-file : List ℕ
 js-file = 1 ∷ 2 ∷ 4 ∷ 12 ∷ 13 ∷ 14 ∷ 15 ∷ 16 ∷ 17 ∷ []
@@ -125,3 +129,26 @@ file-refusals s treeOut numbersOut = go (fileContents s) (told-file s)
         }
     go (contains f) (good h) =
         table-or-nothing js-file 0 (f .W) (f .H) _ (f .tree) (f .numbers) treeOut numbersOut refl refl refl h
+
+-- ---- saving
+
+-- an output that 18 does not apply to holds the file
+pub file-fits : (W H : ℕ) (t : List ℕ) (cs : List ℤ) (out : List ℕ) → saveCause W H t cs out ≡ 0
+    → length (fileOf W H t cs) ≤ length out
+unfolding saveCause
+file-fits W H t cs out e =
+    let short = ltb (length out) (length (fileOf W H t cs)) in
+    ltb-false (length out) (length (fileOf W H t cs))
+    (cause-off 17 short (orElse-none (tableCause W H t cs) (cause 18 short) e .1))
+
+pub save-refusals : (W H : ℕ) (t : List ℕ) (cs : List ℤ) (out : List ℕ)
+    → WritesSliceOrNothing (1 ∷ 2 ∷ 3 ∷ 4 ∷ 5 ∷ 18 ∷ []) (saveOutcome W H t cs out) out
+unfolding saveOutcome saveCause
+save-refusals W H t cs out =
+    let js : List ℕ = 1 ∷ 2 ∷ 3 ∷ 4 ∷ 5 ∷ 18 ∷ [] in
+    let file = fileOf W H t cs in
+    let short = ltb (length out) (length file) in
+    slice-or-nothing js (saveCause W H t cs out) (length file) out (put file out)
+    (one-or (tableCause W H t cs) (cause 18 short) js (one-table js refl refl refl refl refl W H t cs)
+    (one-cause 18 short js refl))
+    (λ e. put-length file out (file-fits W H t cs out e))

@@ -1,5 +1,5 @@
 -- Document 01, "Calls and what they decline": the whole outcome of each call on every input, as the answer and what
--- each lent buffer then holds. File reading is in TableFile.
+-- each lent buffer then holds. File reading is in TableFile, saving in Saving.
 use mathlib.Core.Path.{_≡_}
 use mathlib.Core.Bool.{Bool, not, _&&_, cond}
 use mathlib.Core.List.{List, [], _∷_, _++_}
@@ -34,9 +34,9 @@ abbrev pub afterwards : {A : Type 0} → ℕ → A → A → A
 afterwards zero old new = new
 afterwards (suc n) old new = old
 
--- "On success, tree output past the tree is untouched."
+-- "On success, tree output past the tree is untouched." Bytes put at the front of a buffer, a tree or a file.
 abbrev pub put : List ℕ → List ℕ → List ℕ
-put tree out = tree ++ drop (length tree) out
+put bytes out = bytes ++ drop (length bytes) out
 
 -- The outcome of a call that writes a table: the answer, the tree output and the numbers output.
 pub record Written (A : Type 0) : Type 0 where

@@ -23,6 +23,7 @@ use Rattle.surface.specs.Calls.{Answer, refused, gives, Written, Done, f
 use Rattle.surface.specs.Calls.{activityOutcome, leastOutcome, exactOutcome, displayOutcome, costOutcome}
 use Rattle.surface.specs.FloatReading.{FloatMeets}
 use Rattle.surface.specs.TableFile.{fileOutcome}
+use Rattle.surface.specs.Saving.{saveOutcome}
 
 -- ---- demand 1: "a call gives its full result, or one refusal number from document 01 and writes nothing"
 
@@ -30,7 +31,8 @@ abbrev pub among : ℕ → List ℕ → Bool
 among n [] = false
 among n (m ∷ ms) = eqb n m || among n ms
 
--- A refusal has one of the numbers that document 01 gives the call.
+-- A refusal has one of the numbers that document 01 gives the call; document 02: "Demand 1 and document 01's table take
+-- in this and every later new number".
 abbrev pub RefusesWith : {A : Type 0} → List ℕ → Answer A → Type 0
 RefusesWith {A} numbers answer = (n : ℕ) → answer ≡ refused n → among n numbers ≡ true
 
@@ -41,7 +43,7 @@ pub record WritesAllOrNothing {A : Type 0} (numbers : List ℕ) (o : Written A) 
   pub refusal : (n : ℕ) → o .result ≡ refused n → (o .tree ≡ treeOut) × (o .numbers ≡ numbersOut)
   pub lengths : (length (o .tree) ≡ length treeOut) × (length (o .numbers) ≡ length numbersOut)
 
--- The same of a call that writes to one lent slice: set to one place of it, activity to all of it.
+-- The same of a call that writes to one lent slice: set to one place of it, activity to all of it, saving to its front.
 pub record WritesSliceOrNothing {A B : Type 0} (numbers : List ℕ) (o : Done A B) (lent : List B) : Type 0 where
   pub number : RefusesWith numbers (o .result)
   pub refusal : (n : ℕ) → o .result ≡ refused n → o .after ≡ lent
@@ -72,6 +74,8 @@ pub record Refusals : Type 0 where
   pub file : (bytes : List ℕ) (treeOut : List ℕ) (numbersOut : List ℤ)
       → WritesAllOrNothing (1 ∷ 2 ∷ 4 ∷ 12 ∷ 13 ∷ 14 ∷ 15 ∷ 16 ∷ 17 ∷ []) (fileOutcome bytes treeOut numbersOut)
       treeOut numbersOut
+  pub save : (W H : ℕ) (t : List ℕ) (cs : List ℤ) (out : List ℕ)
+      → WritesSliceOrNothing (1 ∷ 2 ∷ 3 ∷ 4 ∷ 5 ∷ 18 ∷ []) (saveOutcome W H t cs out) out
 
 -- ---- demand 2: "A function is active exactly when the selection rule of source document 003 makes it so."
 

@@ -10,4 +10,5 @@ pub mod Calls
 pub mod FloatReading
 pub mod Fields
 pub mod TableFile
+pub mod Saving
 pub mod Demands

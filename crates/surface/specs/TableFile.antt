@@ -110,20 +110,20 @@ fileOutcome file treeOut numbersOut = fileOutcomeOf (fileContents file) treeOut 
 -- ---- the file of a table
 
 -- What function (a, b) of level L adds to its level's body: its coefficient when active.
-abbrev pub placeBytes : ℕ → ℕ → List ℕ → List ℤ → ℕ → ℕ → ℕ → List ℕ
-placeBytes W H t cs L a b = cond (active W H (levels t) L a b) (numberBytes (coefficients W H cs L a b)) []
+abbrev pub placeBytes : ℕ → ℕ → (ℕ → ℕ → ℕ) → (ℕ → ℕ → ℕ → ℤ) → ℕ → ℕ → ℕ → List ℕ
+placeBytes W H lev coef L a b = cond (active W H lev L a b) (numberBytes (coef L a b)) []
 
 -- "the active coefficients ... in slice order": "in a level j rises, within a row i rises". Row b, and the level.
-abbrev pub rowBytes : ℕ → ℕ → List ℕ → List ℤ → ℕ → ℕ → List ℕ
-rowBytes W H t cs L b = joined (functions W L) (λ a. placeBytes W H t cs L a b)
+abbrev pub rowBytes : ℕ → ℕ → (ℕ → ℕ → ℕ) → (ℕ → ℕ → ℕ → ℤ) → ℕ → ℕ → List ℕ
+rowBytes W H lev coef L b = joined (functions W L) (λ a. placeBytes W H lev coef L a b)
 
-unfoldable pub levelBody : ℕ → ℕ → List ℕ → List ℤ → ℕ → List ℕ
-levelBody W H t cs L = joined (functions H L) (λ b. rowBytes W H t cs L b)
+unfoldable pub levelBody : ℕ → ℕ → (ℕ → ℕ → ℕ) → (ℕ → ℕ → ℕ → ℤ) → ℕ → List ℕ
+levelBody W H lev coef L = joined (functions H L) (λ b. rowBytes W H lev coef L b)
 
 -- "in this order, all present: tag 1, W and H, a byte each; tag 2, the tree; tags 16 to 19, the active coefficients of
--- levels 0 to 3"
+-- levels 0 to 3"; document 02: "Each acceptable table has one file".
 unfoldable pub fileOf : ℕ → ℕ → List ℕ → List ℤ → List ℕ
 fileOf W H t cs =
     fieldBytes 1 (W ∷ H ∷ [])
     ++ fieldBytes 2 t
-    ++ joined 4 (λ L. fieldBytes (16 + L) (levelBody W H t cs L))
+    ++ joined 4 (λ L. fieldBytes (16 + L) (levelBody W H (levels t) (coefficients W H cs) L))

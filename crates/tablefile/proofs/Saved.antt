@@ -3,13 +3,14 @@ use mathlib.Core.Path.{_≡_, refl, sym, ap, ap₂, _∙_, subst}
 use mathlib.Core.Bool.{true, false}
 use mathlib.Core.List.{List, [], _∷_, _++_, append-nil, append-assoc}
 use Prim.Native.Nat.{ℕ, zero, suc, _+_, _*_, _≤_, _<_}
-use native.Mathlib.Nat.{mul-comm, zero-add}
+use native.Mathlib.Nat.{mul-comm, mul-le-mul, zero-add}
 use native.Mathlib.Omega.{arith}
 use lib.IntN.{ℤ, pos}
-use lib.ListN.{length, getD, take, drop, length-drop, take-append-drop, drop-of-length-le}
+use lib.ListN.{length, getD, take, drop, length-append, length-drop, take-append-drop, drop-of-length-le}
 use lib.Seq.{length-take-le, getD-drop, getD-take, drop-drop, ext-getD}
-use Rattle.finite.specs.Range.{grid, joined}
+use Rattle.finite.specs.Range.{total, grid, joined}
 use Rattle.finite.proofs.Table.{length-grid, getD-grid, place-split}
+use Rattle.finite.proofs.Joined.{joined-length}
 use Rattle.finite.proofs.Tests.{and-intro}
 use Rattle.surface.specs.Sheet.{goodSide, functions}
 use Rattle.surface.specs.Quadtree.{Quadtree, bytes, wellFormed}
@@ -17,7 +18,7 @@ use Rattle.surface.specs.Support.{activeCount}
 use Rattle.surface.specs.Table.{treeOf, formed, levels, start, slots, coefficients, sliceFrom, sliceOf, limit}
 use Rattle.surface.specs.Fields.{contains, holds, numberAt, allWithin, Bytes, fieldBytes}
 use Rattle.surface.specs.TableFile.{sidesIn, goodSides, sidesField, treeField, levelLoaded, levelField, levelFields}
-use Rattle.surface.specs.TableFile.{Loaded, fileContents, levelBody, fileOf}
+use Rattle.surface.specs.TableFile.{Loaded, fileContents, fileOf}
 use Rattle.surface.proofs.TreeForm.{AtLeaves, AtSplits, form-induction}
 use Rattle.surface.proofs.TreeBytes.{tree-length}
 use Rattle.surface.proofs.OneTree.{slice-bytes}
@@ -25,11 +26,11 @@ use Rattle.surface.proofs.TableLaws.{Formed, tree-formed, start-step, start-le,
 use Rattle.fields.proofs.FieldLaws.{bodyOf, restOf, body-length, body-bytes, rest-bytes, field-written}
 use Rattle.fields.proofs.FiveBytes.{numbers-determine}
 use Rattle.fields.proofs.Written.{nil-bytes, cons-bytes, append-bytes, joined-bytes, field-bytes, checked-read}
-use Rattle.tablefile.specs.Saved.{SavedLoads, SavedOfLoaded}
-use Rattle.tablefile.proofs.ActiveLaws.{active-place, loaded-active}
+use Rattle.tablefile.specs.Saved.{SavedLoads, SavedOfLoaded, LongestFile}
+use Rattle.tablefile.proofs.ActiveLaws.{active-place, active-count-le, loaded-active}
 use Rattle.tablefile.proofs.FileLaws.{after, levelsIn, Accepted, accepted, loaded-coefficient, accepted-sound}
 use Rattle.tablefile.proofs.SavedLevels.{level-length, level-bytes, level-number, level-loads, level-within}
-use Rattle.tablefile.proofs.SavedLevels.{level-small}
+use Rattle.tablefile.proofs.SavedLevels.{level-small, savedBody}
 
 -- ---- a slice is that of its own coefficients
 
@@ -91,7 +92,7 @@ form-bytes W H = form-induction W H Written at-leaf at-split
 tree-bytes : (W H : ℕ) (t : List ℕ) → Formed W H t → Bytes t
 tree-bytes W H t f = subst Bytes (sym (slice-bytes W H t f)) (form-bytes W H 5 0 0 (f .tree) (f .shape))
 
-tree-size : (W H : ℕ) (t : List ℕ) → Formed W H t → (1 ≤ length t) × (length t ≤ 1365)
+pub tree-size : (W H : ℕ) (t : List ℕ) → Formed W H t → (1 ≤ length t) × (length t ≤ 1365)
 tree-size W H t f =
     subst (λ l. (1 ≤ length l) × (length l ≤ 1365)) (sym (slice-bytes W H t f))
     (tree-length W H 0 0 (f .tree) (f .shape))
@@ -100,7 +101,7 @@ tree-size W H t f =
 
 -- The field of a level.
 abbrev levelWritten : ℕ → ℕ → List ℕ → List ℤ → ℕ → List ℕ
-levelWritten W H t cs L = fieldBytes (16 + L) (levelBody W H t cs L)
+levelWritten W H t cs L = fieldBytes (16 + L) (savedBody W H t cs L)
 
 module _ (W H : ℕ) (t : List ℕ) (cs : List ℤ) (ok : Sound W H t cs) where
   abbrev written : ℕ → List ℕ
@@ -112,9 +113,9 @@ module _ (W H : ℕ) (t : List ℕ) (cs : List ℤ) (ok : Sound W H t cs) where
   levels-read zero h rest = refl
   levels-read (suc L) h rest =
       let k = activeCount W H (levels t) L in
-      let b = levelBody W H t cs L in
+      let b = savedBody W H t cs L in
       let f = coefficients W H cs in
-      let size = level-length W H t cs L in
+      let size = level-length W H (levels t) (coefficients W H cs) L in
       let one = checked-read (16 + L) (5 * k) (5 * k) 4 (allWithin (limit L) k) (levelLoaded W H (levels t) L) b rest
       (level-small W H t cs ok L h) (omega arith) (omega arith) (level-within W H t cs ok L h) in
       ap (levelFields W H (levels t) (suc L)) (append-assoc (joined L written) (written L) rest)
@@ -156,7 +157,8 @@ module _ (W H : ℕ) (t : List ℕ) (cs : List ℤ) (ok : Sound W H t cs) where
       (cons-bytes W (H ∷ []) (omega arith) (cons-bytes H [] (omega arith) nil-bytes)))
       (field-bytes 2 t (omega arith) (tree-bytes W H t (ok .tree))))
       (joined-bytes written 4
-      λ L h. field-bytes (16 + L) (levelBody W H t cs L) (omega arith) (level-bytes W H t cs L))
+      λ L h. field-bytes (16 + L) (savedBody W H t cs L) (omega arith)
+      (level-bytes W H (levels t) (coefficients W H cs) L))
 
 -- Loading the file of an acceptable table restores the table.
 pub saved-loads : SavedLoads
@@ -183,16 +185,17 @@ module _ (s : List ℕ) (bs : Bytes s) (f : Loaded) (r : Accepted s f) where
   levels-bytes L = after-bytes L (levelsIn s) (rest-bytes (restOf s) (rest-bytes s bs))
 
   -- a level's numbers are those of its active functions, so its body is the one that is saved
-  same-body : (L : ℕ) → L < 4 → bodyOf (after L (levelsIn s)) ≡ levelBody (f .W) (f .H) (f .tree) (f .numbers) L
+  same-body : (L : ℕ) → L < 4 → bodyOf (after L (levelsIn s)) ≡ savedBody (f .W) (f .H) (f .tree) (f .numbers) L
   same-body L hL =
       let W = f .W in
       let H = f .H in
       let lev = levels (f .tree) in
+      let coef = coefficients W H (f .numbers) in
       let b = after L (levelsIn s) in
-      let c = levelBody W H (f .tree) (f .numbers) L in
+      let c = savedBody W H (f .tree) (f .numbers) L in
       let field = r .level L hL .field in
-      numbers-determine (bodyOf b) c (body-bytes b (levels-bytes L)) (level-bytes W H (f .tree) (f .numbers) L)
-      (activeCount W H lev L) (body-length b (field .whole) ∙ omega arith) (level-length W H (f .tree) (f .numbers) L)
+      numbers-determine (bodyOf b) c (body-bytes b (levels-bytes L)) (level-bytes W H lev coef L)
+      (activeCount W H lev L) (body-length b (field .whole) ∙ omega arith) (level-length W H lev coef L)
       λ k h.
       let p = active-place W H lev L k h in
       subst (λ j. numberAt (bodyOf b) j ≡ numberAt c j) (p .5)
@@ -227,3 +230,35 @@ module _ (s : List ℕ) (bs : Bytes s) (f : Loaded) (r : Accepted s f) where
 -- Saving what was loaded from a file reproduces the file.
 pub saved-of-loaded : SavedOfLoaded
 saved-of-loaded s h f e = sym (file-saved s h f (accepted s f e))
+
+-- ---- the longest file
+
+-- a level's field by bounds of its rows and columns
+field-short : (W H : ℕ) (t : List ℕ) (cs : List ℤ) (L n : ℕ) → functions W L ≤ n → functions H L ≤ n
+    → length (levelWritten W H t cs L) ≤ 3 + 5 * (n * n)
+field-short W H t cs L n wide high =
+    omega (
+      arith,
+      level-length W H (levels t) (coefficients W H cs) L,
+      active-count-le W H (levels t) L,
+      mul-le-mul high wide,
+    )
+
+pub longest-file : LongestFile
+unfolding fileOf total
+longest-file W H t cs acc =
+    let s = sound W H t cs acc in
+    let w = sides s in
+    let field : ℕ → List ℕ = λ L. levelWritten W H t cs L in
+    let front = fieldBytes 1 (W ∷ H ∷ []) in
+    omega (
+      arith,
+      length-append (front ++ fieldBytes 2 t) (joined 4 field),
+      length-append front (fieldBytes 2 t),
+      tree-size W H t (s .tree) .1,
+      joined-length field 4,
+      field-short W H t cs 0 11 (omega arith) (omega arith),
+      field-short W H t cs 1 19 (omega arith) (omega arith),
+      field-short W H t cs 2 35 (omega arith) (omega arith),
+      field-short W H t cs 3 67 (omega arith) (omega arith),
+    )

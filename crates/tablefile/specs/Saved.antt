@@ -2,8 +2,9 @@
 -- in proofs/Saved.antt.
 use mathlib.Core.Path.{_≡_}
 use mathlib.Core.List.{List}
-use Prim.Native.Nat.{ℕ}
+use Prim.Native.Nat.{ℕ, _≤_}
 use lib.IntN.{ℤ}
+use lib.ListN.{length}
 use Rattle.surface.specs.Table.{Acceptable}
 use Rattle.surface.specs.Fields.{contains, Bytes}
 use Rattle.surface.specs.TableFile.{Loaded, fileContents, fileOf}
@@ -20,3 +21,8 @@ abbrev pub SavedOfLoaded : Type 0
 SavedOfLoaded =
     (s : List ℕ) → Bytes s → (f : Loaded) → fileContents s ≡ contains f
     → fileOf (f .W) (f .H) (f .tree) (f .numbers) ≡ s
+
+-- No file is longer than 32,365 bytes: 5 for the sides, 1,368 for the tree, four heads of 3 and 5 for each of 6,196
+-- places.
+abbrev pub LongestFile : Type 0
+LongestFile = (W H : ℕ) (t : List ℕ) (cs : List ℤ) → Acceptable W H t cs → length (fileOf W H t cs) ≤ 32365

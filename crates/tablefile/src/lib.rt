@@ -1,2 +1,20 @@
-// Theorems about table files: what is accepted is an acceptable table, one table has one file, and input longer than
-// any file is judged by its front. No code.
+// Table files: their tags and sizes, and theorems about them: what is accepted is an acceptable table, one table has
+// one file, and input longer than any file is judged by its front.
+
+// "tag 1, W and H, a byte each; tag 2, the tree; tags 16 to 19, the active coefficients of levels 0 to 3"
+pub const SIDES_TAG: u8 = 1;
+
+pub const TREE_TAG: u8 = 2;
+
+pub const LEVEL_TAG: u8 = 16;
+
+pub const LEVELS: usize = 4;
+
+// The fields of a file: "all present".
+pub const FIELDS: usize = 2 + LEVELS;
+
+// The bytes of the sides.
+pub const SIDES: usize = 2;
+
+// "Tag 2's length is 1 to 1,365."
+pub const LONGEST_TREE: usize = 1365;

@@ -1,7 +1,7 @@
 -- How long the text of a number and of a line is, and texts put one after another.
 use mathlib.Core.Path.{_≡_, refl, sym, ap, _∙_, subst}
 use mathlib.Core.Bool.{Bool, true, false, cond}
-use mathlib.Core.List.{List, [], _∷_, _++_, append-assoc}
+use mathlib.Core.List.{[], _∷_, _++_, append-assoc}
 use Prim.Native.Nat.{ℕ, zero, suc, _+_, _-_, _/_, _%_, _^_, _≤_, _<_}
 use native.Mathlib.Nat.{pow-le-pow-right, pow-suc}
 use native.Mathlib.Numerals.{add-one}
@@ -11,9 +11,6 @@ use lib.IntN.{ℤ, pos, negsuc, natAbs}
 use lib.ListN.{length, length-append}
 use borrow.Author.Tests.{lt-ltb, le-ltb, ltb-false}
 use Rattle.io.specs.Digits.{glyph, digits, Fewest}
-use Rattle.finite.specs.Range.{joined}
-use Rattle.fields.specs.Put.{Put}
-use Rattle.fields.proofs.PutLaws.{put-nothing, put-both}
 use Rattle.text.specs.Text.{widthWithin, decimal, signed, space, newline, refusedWord, refusedLine, line}
 
 -- ---- the digits of a number
@@ -109,14 +106,3 @@ line-parts u v z = ap (λ l. l ++ signed z ++ newline) (sym (append-assoc (decim
 pub refused-parts : (n : ℕ) → refusedWord ++ decimal n ++ newline ≡ refusedLine n
 unfolding refusedLine
 refused-parts n = refl
-
--- one more text after those before
-pub put-next : (n : ℕ) (f : ℕ → List ℕ) (text : List ℕ) (at : ℕ) (o : List ℕ) (r : ℕ) (p : List ℕ) (s : ℕ) (q : List ℕ)
-    → Put (joined n f) at o r p → Put text r p s q → text ≡ f n → Put (joined (n + 1) f) at o s q
-unfolding joined
-put-next n f text at o r p s q h k e =
-    rw (add-one n, ← e) (put-both (joined n f) text at o r p s q h k)
-
-pub put-none : (f : ℕ → List ℕ) (at : ℕ) (o : List ℕ) → Put (joined 0 f) at o at o
-unfolding joined
-put-none f at o = put-nothing at at o refl

@@ -5,14 +5,6 @@ ghost use lib.ListN.{length};
 ghost use Rattle.fields.specs.Put.{Put};
 ghost use Rattle.text.specs.Text as Text;
 
-fn byte(b: u8, out: &mut [u8], at: usize) -> usize
-    requires { ⌜ at + 1 ≤ length (now out) ⌝ }
-    ensures { λ r. ⌜ Put (b ∷ []) at (now (out .entry)) r (now (out .exit)) ⌝ }
-{
-    out[at] = b;
-    at + 1
-}
-
 fn decimal(n: u64, out: &mut [u8], at: usize) -> usize
     requires { ⌜ at + length (Text.decimal n) ≤ length (now out) ⌝ }
     ensures { λ r. ⌜ Put (Text.decimal n) at (now (out .entry)) r (now (out .exit)) ⌝ }
@@ -28,7 +20,7 @@ fn signed(n: i64, out: &mut [u8], at: usize) -> usize
     ensures { λ r. ⌜ Put (Text.signed n) at (now (out .entry)) r (now (out .exit)) ⌝ }
 {
     if n < 0 {
-        let next = byte(b'-', out, at);
+        let next = fields::put_byte(b'-', out, at);
         return decimal((-1 - n) as u64 + 1, out, next);
     }
     decimal(n as u64, out, at)
@@ -40,7 +32,7 @@ fn spaced(n: usize, out: &mut [u8], at: usize) -> usize
     ensures { λ r. ⌜ Put (Text.decimal n ++ Text.space) at (now (out .entry)) r (now (out .exit)) ⌝ }
 {
     let next = decimal(n as u64, out, at);
-    byte(b' ', out, next)
+    fields::put_byte(b' ', out, next)
 }
 
 // The line of a corner.
@@ -51,7 +43,7 @@ pub fn line(u: usize, v: usize, watts: i64, out: &mut [u8], at: usize) -> usize
     let a = spaced(u, out, at);
     let b = spaced(v, out, a);
     let c = signed(watts, out, b);
-    byte(b'\n', out, c)
+    fields::put_byte(b'\n', out, c)
 }
 
 pub fn header(out: &mut [u8]) -> usize
@@ -67,5 +59,5 @@ pub fn refused(n: u8, out: &mut [u8]) -> usize
 {
     let a = fields::put(b"refused ", out, 0);
     let b = decimal(n as u64, out, a);
-    byte(b'\n', out, b)
+    fields::put_byte(b'\n', out, b)
 }

@@ -15,7 +15,8 @@ use Rattle.finite.specs.Range.{joined}
 use Rattle.text.specs.Text.{line}
 use Rattle.corners.specs.Text.{cornerLine}
 use Rattle.fields.specs.Put.{Put}
-use Rattle.text.proofs.TextLaws.{line-short, put-next, put-none}
+use Rattle.fields.proofs.PutLaws.{put-next, put-none}
+use Rattle.text.proofs.TextLaws.{line-short}
 use Rattle.corners.proofs.row.Statement.{statement}
 use Rattle.corners.proofs.row.Tie as tie
 
@@ -113,8 +114,8 @@ returns c =
     let all : l .loop .u ≡ a .w + 1 = omega (arith, c .loop-test .left, l .loop .inv .0) in (
       λ t e h.
           subst
-          (λ n. Put (joined n (cornerLine (a .w) (a .h) t (a .numbers .now) (a .v))) (a .start) (a .out .now) (l .loop .at)
-          (l .loop .out))
+          (λ n. Put (joined n (cornerLine (a .w) (a .h) t (a .numbers .now) (a .v))) (a .start) (a .out .now)
+          (l .loop .at) (l .loop .out))
           all
           (l .loop .inv .3 t e h),
       omega (arith, within s, l .loop .inv .2),

@@ -14,7 +14,7 @@ use Rattle.corners.specs.Text.{cornerLine, tableText}
 use Rattle.fields.specs.Put.{Put}
 use Rattle.corners.proofs.CornerLaws.{tree-of}
 use Rattle.fields.proofs.PutLaws.{put-both}
-use Rattle.text.proofs.TextLaws.{put-next, put-none}
+use Rattle.fields.proofs.PutLaws.{put-next, put-none}
 use Rattle.corners.proofs.table_text.Statement.{statement}
 use Rattle.corners.proofs.table_text.Tie as tie
 
@@ -59,8 +59,8 @@ loop-holds c =
       omega arith,
       refl,
       omega arith,
-      put-none (λ v. joined (a .w + 1) (cornerLine (a .w) (a .h) (a .tree .now) (a .numbers .now) v)) (h .header .result)
-          (h .header .last .0),
+      put-none (λ v. joined (a .w + 1) (cornerLine (a .w) (a .h) (a .tree .now) (a .numbers .now) v))
+          (h .header .result) (h .header .last .0),
     )
 
 row-requires : tie.Need-row-requires Inv-loop μ-loop

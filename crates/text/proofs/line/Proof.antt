@@ -63,8 +63,8 @@ signed-requires c κs =
       b .spaced2 .kept .1 .0,
     ))
 
-byte-requires : tie.Need-byte-requires
-byte-requires c κs =
+put-byte-requires : tie.Need-put-byte-requires
+put-byte-requires c κs =
     let n = c .before .before .before in
     let b = n .before .before .before .before in
     let a = b .before .before .before .before in
@@ -94,15 +94,15 @@ returns c =
     let o = x .out .now in
     rw (← line-parts (x .u) (x .v) (x .watts))
     (put-both (u ++ v ++ signed (x .watts)) newline (x .at) o (n .signed .result) (n .signed .last .1 .0)
-    (e .byte .result) (e .byte .last .1 .0)
+    (e .put-byte .result) (e .put-byte .last .1 .0)
     (put-both (u ++ v) (signed (x .watts)) (x .at) o (b .spaced2 .result) (b .spaced2 .last .1 .0)
     (n .signed .result) (n .signed .last .1 .0)
     (put-both u v (x .at) o (a .spaced .result) (a .spaced .last .1 .0) (b .spaced2 .result) (b .spaced2 .last .1 .0)
     (a .spaced .ensures) (b .spaced2 .ensures))
     (signed-put n))
-    (e .byte .ensures))
+    (e .put-byte .ensures))
 
 pub line-spec : {M : Type 1} → statement M
 line-spec =
     tie.close
-    (tie.spec spaced-requires spaced-requires-2 signed-requires byte-requires (λ c. search needs) returns)
+    (tie.spec spaced-requires spaced-requires-2 signed-requires put-byte-requires (λ c. search needs) returns)

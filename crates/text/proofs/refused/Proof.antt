@@ -23,8 +23,8 @@ decimal-requires c κs =
     let s = w .before .before .before .before in
     omega (arith, w .put .ensures .0, w .put .kept .1 .0, short s, s .pre)
 
-byte-requires : tie.Need-byte-requires
-byte-requires c κs =
+put-byte-requires : tie.Need-put-byte-requires
+put-byte-requires c κs =
     let d = c .before .before .before in
     let w = d .before .before .before .before in
     let s = w .before .before .before .before in
@@ -47,16 +47,16 @@ returns c =
     let n = decimal (s .args .n) in
     let o = s .args .out .now in
     let put =
-    put-both (refusedWord ++ n) newline 0 o (d .decimal .result) (d .decimal .last .1 .0) (b .byte .result)
-    (b .byte .last .1 .0)
+    put-both (refusedWord ++ n) newline 0 o (d .decimal .result) (d .decimal .last .1 .0) (b .put-byte .result)
+    (b .put-byte .last .1 .0)
     (put-both refusedWord n 0 o (w .put .result) (w .put .last .1 .0) (d .decimal .result)
     (d .decimal .last .1 .0) (w .put .ensures) (d .decimal .ensures))
-    (b .byte .ensures) in (
+    (b .put-byte .ensures) in (
       rw (← refused-parts (s .args .n)) put,
-      omega (arith, short s, w .put .ensures .0, d .decimal .ensures .0, b .byte .ensures .0),
+      omega (arith, short s, w .put .ensures .0, d .decimal .ensures .0, b .put-byte .ensures .0),
     )
 
 pub refused-spec : {M : Type 1} → statement M
 refused-spec =
     tie.close
-    (tie.spec (λ c. search needs) put-requires decimal-requires byte-requires (λ c. search needs) returns)
+    (tie.spec (λ c. search needs) put-requires decimal-requires put-byte-requires (λ c. search needs) returns)

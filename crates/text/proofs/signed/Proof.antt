@@ -9,8 +9,7 @@ use lib.Signed.{mag}
 use mir.Syntax.{w64}
 use mir.Val.{toZ, ofZ}
 use mir.ValLaws.{toZ-ofZ}
-use borrow.Author.Needs.{sfits-of}
-use Rattle.finite.proofs.Signed.{below, not-below, as-is, mirrored, fits-pos, cast-up}
+use Rattle.finite.proofs.Signed.{below, not-below, as-is, mirrored, mirrored-back, fits-pos, cast-up}
 use Rattle.text.specs.Text.{decimal, signed}
 use Rattle.fields.specs.Put.{Put}
 use Rattle.fields.proofs.PutLaws.{put-both}
@@ -28,9 +27,7 @@ turned c = let s = c .before .before in mirrored (s .args .n) (s .fits .n) (c .i
 
 turned-back : (c : tie.Then1)
     → let n = c .before .before .args .n in toZ w64 (ofZ w64 (negsuc 0 -ℤ toZ w64 (ofZ w64 n))) ≡ pos (mag n)
-turned-back c =
-    let s = c .before .before in
-    ap (λ z. toZ w64 (ofZ w64 z)) (turned c) ∙ toZ-ofZ w64 (pos (mag (s .args .n))) (sfits-of (s .fits .n .sfits))
+turned-back c = let s = c .before .before in mirrored-back (s .args .n) (s .fits .n) (c .if1 .taken)
 
 number : (c : tie.Then1)
     → let n = c .before .before .args .n in
@@ -47,8 +44,8 @@ plain-text c =
     let s = c .before .before in
     ap signed (not-below (s .args .n) (s .fits .n) (c .if1 .left)) ∙ sym (ap (λ z. decimal (natAbs z)) (plain c))
 
-byte-requires : tie.Need-byte-requires
-byte-requires c κs =
+put-byte-requires : tie.Need-put-byte-requires
+put-byte-requires c κs =
     let s = c .before .before .before in omega (arith, ap length (below-text (c .before)), s .pre)
 
 sub-decimal : tie.Need-sub-decimal
@@ -69,7 +66,7 @@ decimal-requires c κs =
     let b = c .before .before .before in
     let t = b .before .before in
     rw (number t)
-    (omega (arith, b .byte .ensures .0, b .byte .kept .1 .0, ap length (below-text t), t .before .before .pre))
+    (omega (arith, b .put-byte .ensures .0, b .put-byte .kept .1 .0, ap length (below-text t), t .before .before .pre))
 
 returns : tie.Need-returns
 returns c =
@@ -81,10 +78,10 @@ returns c =
     let o = d .decimal .last .1 .0 in
     let m = suc (mag (a .n)) in
     let rest =
-    subst (λ k. Put (decimal k) (b .byte .result) (b .byte .last .1 .0) r o) (number t) (d .decimal .ensures) in
+    subst (λ k. Put (decimal k) (b .put-byte .result) (b .put-byte .last .1 .0) r o) (number t) (d .decimal .ensures) in
     rw (below-text t)
-    (put-both (45 ∷ []) (decimal m) (a .at) (a .out .now) (b .byte .result) (b .byte .last .1 .0) r o
-    (b .byte .ensures) rest)
+    (put-both (45 ∷ []) (decimal m) (a .at) (a .out .now) (b .put-byte .result) (b .put-byte .last .1 .0) r o
+    (b .put-byte .ensures) rest)
 
 cast-decimal-2 : tie.Need-cast-decimal-2
 cast-decimal-2 c = cast-up (plain c) (c .before .before .fits .n .sfits)
@@ -99,5 +96,5 @@ returns-2 c =
 pub signed-spec : {M : Type 1} → statement M
 signed-spec =
     tie.close
-    (tie.spec byte-requires sub-decimal cast-decimal add-decimal decimal-requires (λ c. search needs) returns
+    (tie.spec put-byte-requires sub-decimal cast-decimal add-decimal decimal-requires (λ c. search needs) returns
     cast-decimal-2 decimal-requires-2 (λ c. search needs) returns-2)

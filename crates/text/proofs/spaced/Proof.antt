@@ -10,8 +10,8 @@ decimal-requires : tie.Need-decimal-requires
 decimal-requires c κs =
     let s = c .before .before in omega (arith, length-append (decimal (s .args .n)) space, s .pre)
 
-byte-requires : tie.Need-byte-requires
-byte-requires c κs =
+put-byte-requires : tie.Need-put-byte-requires
+put-byte-requires c κs =
     let d = c .before .before .before in
     let s = d .before .before .before in
     omega (arith, d .decimal .ensures .0, d .decimal .kept .1 .0, length-append (decimal (s .args .n)) space, s .pre)
@@ -22,7 +22,8 @@ returns c =
     let d = b .before .before .before .before in
     let s = d .before .before .before in
     put-both (decimal (s .args .n)) space (s .args .at) (s .args .out .now) (d .decimal .result)
-    (d .decimal .last .1 .0) (b .byte .result) (b .byte .last .1 .0) (d .decimal .ensures) (b .byte .ensures)
+    (d .decimal .last .1 .0) (b .put-byte .result) (b .put-byte .last .1 .0) (d .decimal .ensures)
+    (b .put-byte .ensures)
 
 pub spaced-spec : {M : Type 1} → statement M
-spaced-spec = tie.close (tie.spec decimal-requires byte-requires (λ c. search needs) returns)
+spaced-spec = tie.close (tie.spec decimal-requires put-byte-requires (λ c. search needs) returns)

@@ -1,0 +1,3 @@
+pub mod SaveLaws
+pub mod RoundTrip
+pub mod LinkedRoundTrip

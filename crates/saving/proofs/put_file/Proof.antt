@@ -1,0 +1,88 @@
+-- `put_file` meets its contract: the fields are put one after the other.
+use mathlib.Core.Path.{_≡_}
+use mathlib.Core.List.{List, [], _∷_, _++_}
+use Prim.Native.Nat.{ℕ, _+_}
+use native.Mathlib.Omega.{arith}
+use lib.ListN.{length}
+use borrow.Author.Needs.{needs}
+use Rattle.finite.specs.Range.{joined}
+use Rattle.surface.specs.Table.{coefficients}
+use Rattle.surface.specs.Fields.{fieldBytes}
+use Rattle.rows.specs.Rows.{levelsOf}
+use Rattle.fields.proofs.PutLaws.{put-both}
+use Rattle.saving.specs.Saved.{levelUnder, fileUnder}
+use Rattle.saving.proofs.FileLaws.{parts-size}
+use Rattle.saving.proofs.put_file.Statement.{statement}
+use Rattle.saving.proofs.put_file.Tie as tie
+
+-- the fields of the levels
+abbrev levels : tie.Start → List ℕ
+levels s =
+    let a = s .args in
+    joined 4 (levelUnder (a .w) (a .h) (levelsOf (a .rows .now)) (coefficients (a .w) (a .h) (a .numbers .now)))
+
+-- how long the parts are together
+size : (s : tie.Start)
+    → let a = s .args in
+    length
+    (fileUnder (a .w) (a .h) (a .tree .now) (levelsOf (a .rows .now)) (coefficients (a .w) (a .h) (a .numbers .now)))
+    ≡ 8 + length (a .tree .now) + length (levels s)
+size s =
+    let a = s .args in
+    parts-size (a .w) (a .h) (a .tree .now) (levelsOf (a .rows .now)) (coefficients (a .w) (a .h) (a .numbers .now))
+
+put-sides-requires : tie.Need-put-sides-requires
+put-sides-requires c κs =
+    let s = c .before .before .before in
+    let p = s .pre .0 in
+    (p .small-W, p .small-H, omega (arith, s .pre .2, size s))
+
+put-tree-requires : tie.Need-put-tree-requires
+put-tree-requires c κs =
+    let sides = c .before .before .before in
+    let s = sides .before .before .before .before in
+    omega (arith, s .pre .2, size s, sides .put-sides .ensures .0, sides .put-sides .kept .1 .1 .0)
+
+put-levels-requires : tie.Need-put-levels-requires
+put-levels-requires c κs =
+    let tree = c .before .before .before in
+    let sides = tree .before .before .before .before in
+    let s = sides .before .before .before .before in
+    let p = s .pre .0 in (
+      p .small-W,
+      p .small-H,
+      p .nested,
+      p .size,
+      p .spelt,
+      s .pre .1,
+      omega (
+        arith,
+        s .pre .2,
+        size s,
+        sides .put-sides .ensures .0,
+        sides .put-sides .kept .1 .1 .0,
+        tree .put-tree .ensures .0,
+        tree .put-tree .kept .1 .0,
+      ),
+    )
+
+returns : tie.Need-returns
+unfolding fileUnder
+returns c =
+    let last = c .before .before in
+    let tree = last .before .before .before .before in
+    let sides = tree .before .before .before .before in
+    let s = sides .before .before .before .before in
+    let a = s .args in
+    let first = fieldBytes 1 (a .w ∷ a .h ∷ []) in
+    let second = fieldBytes 2 (a .tree .now) in
+    put-both (first ++ second) (levels s) 0 (a .out .now) (tree .put-tree .result) (tree .put-tree .last .1 .0)
+    (last .put-levels .result) (last .put-levels .last .1 .1 .1 .1 .1 .0)
+    (put-both first second 0 (a .out .now) (sides .put-sides .result) (sides .put-sides .last .1 .1 .0)
+    (tree .put-tree .result) (tree .put-tree .last .1 .0) (sides .put-sides .ensures) (tree .put-tree .ensures))
+    (last .put-levels .ensures)
+
+pub put-file-spec : {M : Type 1} → statement M
+put-file-spec =
+    tie.close
+    (tie.spec put-sides-requires put-tree-requires put-levels-requires (λ c. search needs) returns)

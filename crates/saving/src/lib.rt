@@ -1,0 +1,107 @@
+// The call that writes a table file: the table is checked and the file's length found, then its fields are put in
+// order.
+mod levels;
+
+ghost use mathlib.Core.Path.{_≡_};
+ghost use mathlib.Core.List.{[], _∷_};
+ghost use Prim.Native.Nat.{ℕ, _+_, _≤_, _<_};
+ghost use lib.ListN.{length, getD};
+ghost use Rattle.surface.specs.Table.{coefficients};
+ghost use Rattle.surface.specs.Calls.{SliceMeets};
+ghost use Rattle.surface.specs.Fields.{fieldBytes};
+ghost use Rattle.demands.specs.FilePromises.{WritePromise};
+ghost use Rattle.answers.specs.Answers.{lengthAnswer};
+ghost use Rattle.rows.specs.Rows.{levelsOf};
+ghost use Rattle.fields.specs.Put.{Put};
+ghost use Rattle.saving.specs.Saved.{Checked, Counted, lengthBy, fileUnder, savedOutcome};
+
+// The length of a file, by that of its tree and the active functions of each level.
+fn file_length(tree: usize, counts: [usize; 4]) -> usize
+    requires { ⌜ (tree ≤ 1365) × ((L : ℕ) → L < 4 → getD counts L 0 ≤ 4489) ⌝ }
+    ensures { λ r. ⌜ r ≡ lengthBy tree counts ⌝ }
+{
+    let heads = tablefile::FIELDS * fields::HEAD;
+    let active = counts[0] + counts[1] + counts[2] + counts[3];
+    heads + tablefile::SIDES + tree + fields::number::SIZE * active
+}
+
+// Puts the field of the sides at the front of a buffer.
+fn put_sides(w: usize, h: usize, out: &mut [u8]) -> usize
+    requires { ⌜ (w ≤ 8) × (h ≤ 8) × (5 ≤ length (now out)) ⌝ }
+    ensures { λ r. ⌜ Put (fieldBytes 1 (w ∷ h ∷ [])) 0 (now (out .entry)) r (now (out .exit)) ⌝ }
+{
+    let body = fields::put_head(tablefile::SIDES_TAG, tablefile::SIDES, out, 0);
+    let next = fields::put_byte(w as u8, out, body);
+    fields::put_byte(h as u8, out, next)
+}
+
+// Puts the field of the tree at a position.
+fn put_tree(tree: &[u8], out: &mut [u8], at: usize) -> usize
+    requires { ⌜ at + length (fieldBytes 2 (now tree)) ≤ length (now out) ⌝ }
+    ensures { λ r. ⌜ Put (fieldBytes 2 (now (tree .entry))) at (now (out .entry)) r (now (out .exit)) ⌝ }
+{
+    let body = fields::put_head(tablefile::TREE_TAG, tree.len(), out, at);
+    fields::put(tree, out, body)
+}
+
+// Puts the file of a table with these active functions of each level at the front of a buffer that holds it.
+fn put_file(
+    w: usize,
+    h: usize,
+    tree: &[u8],
+    numbers: &[i64],
+    rows: &[u32; 96],
+    counts: [usize; 4],
+    out: &mut [u8],
+) -> usize
+    requires { ⌜ Checked w h (now tree) (now numbers) (now rows) × Counted w h (levelsOf (now rows)) counts
+        × (length (fileUnder w h (now tree) (levelsOf (now rows)) (coefficients w h (now numbers)))
+        ≤ length (now out)) ⌝ }
+    ensures { λ r. ⌜ Put (fileUnder w h (now (tree .entry)) (levelsOf (now (rows .entry)))
+        (coefficients w h (now (numbers .entry)))) 0 (now (out .entry)) r (now (out .exit)) ⌝ }
+{
+    let field = put_sides(w, h, out);
+    let end = put_tree(tree, out, field);
+    levels::put_levels(numbers, rows, w, h, counts, out, end)
+}
+
+// Writes the file of a table that was checked, with its regions, or refuses it with 18 and writes nothing.
+fn write_checked(
+    w: usize,
+    h: usize,
+    tree: &[u8],
+    numbers: &[i64],
+    rows: &[u32; 96],
+    out: &mut [u8],
+) -> answers::Length
+    requires { ⌜ Checked w h (now tree) (now numbers) (now rows) ⌝ }
+    ensures { λ r. ⌜ SliceMeets (savedOutcome w h (now (tree .entry)) (levelsOf (now (rows .entry)))
+        (coefficients w h (now (numbers .entry))) (now (out .entry))) (lengthAnswer r) (now (out .exit)) ⌝ }
+{
+    let counts = levels::counts(rows, w, h);
+    let length = file_length(tree.len(), counts);
+    if out.len() < length {
+        return answers::Length::Refused(18);
+    }
+    put_file(w, h, tree, numbers, rows, counts, out);
+    answers::Length::Bytes(length)
+}
+
+// Writes the file of a table to a buffer and returns its length, or refuses and writes nothing.
+pub fn write_file(
+    w: usize,
+    h: usize,
+    tree: &[u8],
+    numbers: &[i64],
+    out: &mut [u8],
+) -> answers::Length
+    ensures { λ r. ⌜ WritePromise w h (record { tree = now (tree .entry); numbers = now (numbers .entry) })
+        (now (out .entry)) r (now (out .exit)) ⌝ }
+{
+    let mut rows = [0u32; 96];
+    let cause = table::cause::check(w, h, tree, numbers, &mut rows);
+    if cause != 0 {
+        return answers::Length::Refused(cause);
+    }
+    write_checked(w, h, tree, numbers, &rows, out)
+}
