@@ -1,9 +1,9 @@
 /* The kiln power surface: the library's calls, for C and C++.
 
    Power draw over chamber temperature and climb rate is a surface of truncated hierarchical bicubic splines on a sheet
-   of W by H cells. The calls make, load, refine and read tables of such a surface. `rt staticlib kiln` writes the
-   library to target/staticlib/libkiln.a, for x86-64. It needs memcpy and memset and nothing else. kiln_table.h has the
-   same calls with a table in one struct.
+   of W by H cells. The calls make, load, refine, read and save tables of such a surface. `rt staticlib kiln` writes
+   the library to target/staticlib/libkiln.a, for x86-64. It needs memcpy and memset and nothing else. kiln_table.h has
+   the same calls with a table in one struct.
 
    Answers
      Every call returns 0 when it is done, else the refusal number of the cause that applies, the lowest where several
@@ -39,7 +39,7 @@ extern "C" {
 
 /* The version of this header, which is that of the library it came with. The archive itself carries none. */
 #define KILN_VERSION_MAJOR 0
-#define KILN_VERSION_MINOR 1
+#define KILN_VERSION_MINOR 2
 #define KILN_VERSION_PATCH 0
 
 /* The table
@@ -90,7 +90,8 @@ enum kiln_refusal {
   KILN_FILE_FIELD_LENGTH = 14,
   KILN_FILE_GOES_ON = 15,
   KILN_OUTPUT_LENGTH = 16,
-  KILN_TREE_OUTPUT_SHORT = 17
+  KILN_TREE_OUTPUT_SHORT = 17,
+  KILN_FILE_OUTPUT_SHORT = 18
 };
 
 /* What a call returned, in words; for every number, never NULL. */
@@ -114,6 +115,7 @@ static inline const char *kiln_refusal_words(uint8_t number) {
     case KILN_FILE_GOES_ON: return "bytes after the last field";
     case KILN_OUTPUT_LENGTH: return "numbers or activity output not of the exact length";
     case KILN_TREE_OUTPUT_SHORT: return "tree output shorter than the tree";
+    case KILN_FILE_OUTPUT_SHORT: return "file output shorter than the file";
     default: return "a cause that this version has no words for";
   }
 }
@@ -124,8 +126,9 @@ static inline const char *kiln_refusal_words(uint8_t number) {
 /* The places of an 8 by 8 sheet, the greatest number of coefficients. */
 #define KILN_PLACES 6196
 
-/* No file that is accepted is longer: the fields' heads, the sides, the longest tree and five bytes for each place. A
-   longer file is refused with the same number when only its first KILN_FILE_BYTES + 1 bytes are lent. */
+/* No file that is accepted or written is longer: the fields' heads, the sides, the longest tree and five bytes for each
+   place. A file output of this length is never too short. A longer file is refused with the same number when only its
+   first KILN_FILE_BYTES + 1 bytes are lent. */
 #define KILN_FILE_BYTES 32365
 
 /* D = 36 * 2^42: an exact reading of x watts has the numerator x * D. */
@@ -286,6 +289,19 @@ uint8_t kiln_cost(size_t w, size_t h, const uint8_t *tree, size_t tree_len, cons
    refusal leaves tree_out, numbers_out, length, w and h as they were. */
 uint8_t kiln_read_file(const uint8_t *file, size_t file_len, uint8_t *tree_out, size_t tree_out_len,
                        int64_t *numbers_out, size_t numbers_out_len, size_t *length, size_t *w, size_t *h);
+
+/* Writes the table file of a table, in the form that kiln_read_file has. Each acceptable table has one file: reading
+   what was written gives the same sides, tree and coefficients, and writing a table that was read gives the bytes of
+   the file that it was read from.
+
+   w, h, tree, numbers   the table; it is not changed
+   file_out              receives the file; as long as the file or longer (KILN_FILE_BYTES always is), and what is past
+                         the file is untouched
+   length                receives the file's length
+
+   Refusals: 1 to 5, 18. A refusal leaves file_out and length as they were. */
+uint8_t kiln_write_file(size_t w, size_t h, const uint8_t *tree, size_t tree_len, const int64_t *numbers,
+                        size_t numbers_len, uint8_t *file_out, size_t file_out_len, size_t *length);
 
 #ifdef __cplusplus
 }

@@ -81,6 +81,13 @@ static inline uint8_t kiln_table_read_file(const uint8_t *file, size_t file_len,
   return refused;
 }
 
+/* kiln_write_file. */
+static inline uint8_t kiln_table_write_file(const struct kiln_table *table, uint8_t *file_out, size_t file_out_len,
+                                            size_t *length) {
+  return kiln_write_file(table->w, table->h, table->tree, table->tree_len, table->numbers, table->numbers_len, file_out,
+                         file_out_len, length);
+}
+
 /* kiln_fresh. The table that made receives lies in the room. A refusal leaves room and made as they were. */
 static inline uint8_t kiln_table_fresh(struct kiln_sheet sheet, int64_t number, struct kiln_room room,
                                        struct kiln_table *made) {

@@ -56,6 +56,10 @@ extern "C" {
         file: *const u8, file_len: usize, tree_out: *mut u8, tree_out_len: usize, numbers_out: *mut i64,
         numbers_out_len: usize, length: *mut usize, w: *mut usize, h: *mut usize,
     ) -> u8;
+    fn kiln_write_file(
+        w: usize, h: usize, tree: *const u8, tree_len: usize, numbers: *const i64, numbers_len: usize,
+        file_out: *mut u8, file_out_len: usize, length: *mut usize,
+    ) -> u8;
 }
 
 /// What a call gives, or the number of its refusal.
@@ -196,9 +200,20 @@ pub fn read_file(file: &[u8], tree_out: &mut [u8], numbers_out: &mut [i64]) -> A
     unless_refused(n, (length, w, h))
 }
 
+/// The file's length.
+pub fn write_file([w, h]: [usize; 2], tree: &[u8], numbers: &[i64], file_out: &mut [u8]) -> Answer<usize> {
+    let mut length = 0;
+    let (tree_len, numbers_len, file_len) = (tree.len(), numbers.len(), file_out.len());
+    let (tree, numbers, file_out) = (tree.as_ptr(), numbers.as_ptr(), file_out.as_mut_ptr());
+    // SAFETY: reads two slices that are borrowed for reading; writes one that is borrowed for writing, so apart from
+    // those, and a local value.
+    let n = unsafe { kiln_write_file(w, h, tree, tree_len, numbers, numbers_len, file_out, file_len, &mut length) };
+    unless_refused(n, length)
+}
+
 #[cfg(test)]
 mod tests {
-    use super::unless_refused;
+    use super::{unless_refused, write_file};
     use std::num::NonZeroU8;
 
     #[test]
@@ -207,5 +222,23 @@ mod tests {
         for number in 1..=u8::MAX {
             assert_eq!(unless_refused(number, 7).map_err(NonZeroU8::get), Err(number));
         }
+    }
+
+    // The file of a sheet of 1 by 1 has 101 bytes: the crate lends more for it, so only this shows the refusal.
+    #[test]
+    fn a_file_output_that_is_too_short_is_refused_and_left() {
+        let numbers = [[5; 16].as_slice(), &[0; 195]].concat();
+        for lent in 0..=103 {
+            let mut file = vec![9; lent];
+            let saved = write_file([1, 1], &[0], &numbers, &mut file).map_err(NonZeroU8::get);
+            if lent < 101 {
+                assert_eq!((saved, file), (Err(18), vec![9; lent]));
+            } else {
+                assert_eq!((saved, file[98..101].to_vec()), (Ok(101), vec![19, 0, 0]));
+                assert!(file[101..].iter().all(|&byte| byte == 9));
+            }
+        }
+        let over = [[32_001; 16].as_slice(), &[0; 195]].concat();
+        assert_eq!(write_file([1, 1], &[0], &over, &mut [9; 100]).map_err(NonZeroU8::get), Err(4));
     }
 }

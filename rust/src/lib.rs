@@ -1,4 +1,4 @@
-//! Tables of a kiln's power surface: load, refine and read them.
+//! Tables of a kiln's power surface: load, refine, read and save them.
 //!
 //! Power draw over chamber temperature and climb rate is a surface of truncated hierarchical bicubic splines on a
 //! sheet of W by H cells, each side 1 to 8. A [`Table`] is such a surface: a sheet, a tree of regions and
@@ -14,6 +14,8 @@
 //!     let point = Point::new(900, 200); // in steps of 1/128 cell
 //!     assert_eq!(finer.exact(point)?, table.exact(point)?); // refining moves no figure
 //!     println!("{} watts, {} hundredths of a cent an hour", finer.display(point)?, finer.cost(point, 2_950)?);
+//!     let file = finer.to_file(); // std::fs::write(path, &file)? sends it out
+//!     assert_eq!(Table::from_file(&file)?, finer);
 //!     Ok(())
 //! }
 //! ```
@@ -40,5 +42,5 @@ mod table;
 pub use around::ActiveFunction;
 pub use place::{Point, QuarterBox};
 pub use refusal::Refusal;
-pub use sizes::{level_places, place_of, places, DENOMINATOR, TREE_BYTES};
+pub use sizes::{level_places, place_of, places, DENOMINATOR, FILE_BYTES, TREE_BYTES};
 pub use table::{Least, Table};

@@ -41,8 +41,8 @@ macro_rules! refusals {
             ///
             /// assert_eq!(Refusal::of(12), Some(Refusal::FileEnds));
             /// assert_eq!(Refusal::of(0), None);
-            /// assert_eq!(Refusal::of(18), None);
-            /// assert!((1..=17).all(|n| Refusal::of(n).map(Refusal::number) == Some(n)));
+            /// assert_eq!(Refusal::of(19), None);
+            /// assert!((1..=18).all(|n| Refusal::of(n).map(Refusal::number) == Some(n)));
             /// ```
             pub fn of(number: u8) -> Option<Refusal> {
                 match number {
@@ -51,13 +51,13 @@ macro_rules! refusals {
                 }
             }
 
-            /// The refusal number, 1 to 17, or whatever a newer library gave.
+            /// The refusal number, 1 to 18, or whatever a newer library gave.
             ///
             /// ```
             /// use kiln::Refusal;
             ///
             /// assert_eq!(Refusal::Side.number(), 1);
-            /// assert_eq!(Refusal::TreeOutputShort.number(), 17);
+            /// assert_eq!(Refusal::FileOutputShort.number(), 18);
             /// ```
             pub fn number(self) -> u8 {
                 match self {
@@ -99,6 +99,7 @@ refusals! {
     15 FileGoesOn "bytes after the last field"
     16 OutputLength "numbers or activity output not of the exact length"
     17 TreeOutputShort "tree output shorter than the tree"
+    18 FileOutputShort "file output shorter than the file"
 }
 
 /// The refusal of any number that a call returned, [`Refusal::Unknown`] where it has no name here.
@@ -138,8 +139,8 @@ mod tests {
     use super::Refusal;
     use std::num::NonZeroU8;
 
-    // The first column of document 01's table of causes, in the order of its numbers.
-    const CAUSES: [&str; 17] = [
+    // The first column of document 01's table of causes, in the order of its numbers, and document 02's words.
+    const CAUSES: [&str; 18] = [
         "a side of 0 or above 8",
         "tree not of the form above",
         "coefficient slice not of the total length",
@@ -157,6 +158,7 @@ mod tests {
         "bytes after the last field",
         "numbers or activity output not of the exact length",
         "tree output shorter than the tree",
+        "file output shorter than the file",
     ];
 
     fn of_any(number: u8) -> Refusal {
@@ -176,7 +178,7 @@ mod tests {
 
     #[test]
     fn a_number_without_a_name_is_an_error_value() {
-        for number in 18..=u8::MAX {
+        for number in 19..=u8::MAX {
             let refusal = of_any(number);
             assert_eq!(Refusal::of(number), None);
             assert_eq!(refusal, Refusal::Unknown { number });

@@ -15,6 +15,16 @@ pub const DENOMINATOR: i64 = 158_329_674_399_744;
 /// ```
 pub const TREE_BYTES: usize = 1_365;
 
+/// No table file is longer, in bytes.
+///
+/// ```
+/// use kiln::{places, FILE_BYTES, TREE_BYTES};
+///
+/// // Six heads of three bytes, two sides, the longest tree, five bytes for each place.
+/// assert_eq!(FILE_BYTES, 6 * 3 + 2 + TREE_BYTES + 5 * places(8, 8));
+/// ```
+pub const FILE_BYTES: usize = 32_365;
+
 /// The places of one level of a `w` by `h` sheet; 0 for a side that is not 1 to 8 or a level that is not 0 to 3.
 ///
 /// ```

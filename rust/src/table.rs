@@ -2,7 +2,7 @@
 use crate::ffi;
 use crate::place::QuarterBox;
 use crate::refusal::Refusal;
-use crate::sizes::{level_places, places, TREE_BYTES};
+use crate::sizes::{level_places, places, FILE_BYTES, TREE_BYTES};
 
 /// An acceptable table: a sheet, the tree of its regions and its coefficients, all owned.
 ///
@@ -112,6 +112,35 @@ impl Table {
         let (length, w, h) = ffi::read_file(file, &mut tree, &mut numbers)?;
         tree.truncate(length);
         Ok(Table { w, h, tree, numbers })
+    }
+
+    /// The bytes of this table's file, of which [`from_file`](Table::from_file) makes the same table again. Each table
+    /// has one file, so saving a table that was loaded gives the bytes that it was loaded from. It is never refused.
+    ///
+    /// ```
+    /// use kiln::{Point, QuarterBox, Table};
+    ///
+    /// let table = Table::fresh(8, 4, 1_500)?;
+    /// let finer = table.insert(QuarterBox::new(28, 4, 32, 8), 3)?;
+    /// let file = finer.to_file();
+    /// let again = Table::from_file(&file)?;
+    /// assert_eq!(again, finer);
+    /// assert_eq!(again.to_file(), file);
+    /// assert_eq!(again.exact(Point::new(900, 200))?, table.exact(Point::new(900, 200))?);
+    ///
+    /// // Sides, tree, then 16 coefficients of -1 watt, and none of levels 1 to 3.
+    /// let small = Table::fresh(1, 1, -1)?.to_file();
+    /// assert_eq!(small[..12], [1, 0, 2, 1, 1, 2, 0, 1, 0, 16, 0, 80]);
+    /// assert_eq!(small[12..92], [0xff; 80]);
+    /// assert_eq!(small[92..], [17, 0, 0, 18, 0, 0, 19, 0, 0]);
+    /// # Ok::<(), kiln::Refusal>(())
+    /// ```
+    pub fn to_file(&self) -> Vec<u8> {
+        let mut file = vec![0; FILE_BYTES];
+        // Nothing is refused: a table is acceptable, and no file is longer than the output.
+        let length = ffi::write_file(self.sheet(), &self.tree, &self.numbers, &mut file).expect("a table has a file");
+        file.truncate(length);
+        file
     }
 
     /// The table of a sheet, a tree and coefficients, each a copy of what is given.
