@@ -9,10 +9,12 @@ from typing import Callable, Dict, List, NamedTuple
 from measure import BEYOND, CALLS, LARGEST, LARGEST_FILE, READINGS, UNREFINED, Figures, calls_on, counted_on
 
 RATIO = 1.35
+RATIO_OF_WRITING = 1.2
 CHECK = 150_000
 CHECK_UNREFINED = 64_000
 INSERTION = 450_000
 FILE_READING = 290_000
+FILE_WRITING = 500_000
 READING_BEYOND_CHECK = 6_000
 READING = CHECK + READING_BEYOND_CHECK
 STACK = 8_192
@@ -27,9 +29,10 @@ class Bar(NamedTuple):
     of: Callable[[Figures], Dict[str, float]]
 
 
-def ratios(figures: Figures) -> Dict[str, float]:
-    return {f"{CALLS.get(call, call)}, {table}": ours.counts[call] / figures.plain[table].counts[call]
-            for table, ours in figures.library.items() for call in counted_on(table)}
+def ratios(asked: Callable[[str], bool]) -> Callable[[Figures], Dict[str, float]]:
+    """The instructions over those of the C program, on each table, of the calls that are asked for."""
+    return lambda figures: {f"{CALLS.get(call, call)}, {table}": ours.counts[call] / figures.plain[table].counts[call]
+                            for table, ours in figures.library.items() for call in counted_on(table) if asked(call)}
 
 
 def counts(table: str, *calls: str) -> Callable[[Figures], Dict[str, float]]:
@@ -51,14 +54,17 @@ def corners(figures: Figures) -> Dict[str, float]:
 
 
 BARS = {
-    "ratio": Bar("instructions over those of the C program, of a call and of an exact reading beyond the table check",
-                 RATIO, ratios),
+    "ratio": Bar("instructions over those of the C program, of a call but file writing, and of an exact reading beyond "
+                 "the table check", RATIO, ratios(lambda call: call != "write_file")),
+    "ratio of writing": Bar("instructions over those of the C program, of file writing", RATIO_OF_WRITING,
+                            ratios(lambda call: call == "write_file")),
     "check": Bar(f"instructions of the table check, {LARGEST}", CHECK, counts(LARGEST, "table_cause")),
     "unrefined": Bar(f"instructions of the table check, {UNREFINED}", CHECK_UNREFINED,
                      counts(UNREFINED, "table_cause")),
     "reading": Bar(f"instructions of a reading, {LARGEST}", READING, counts(LARGEST, *READINGS)),
     "insertion": Bar(f"instructions of an insertion, {LARGEST}", INSERTION, counts(LARGEST, "insert")),
     "file reading": Bar("instructions of reading the largest file", FILE_READING, counts(LARGEST_FILE, "read_file")),
+    "file writing": Bar("instructions of writing the largest file", FILE_WRITING, counts(LARGEST_FILE, "write_file")),
     "beyond": Bar("instructions of an exact reading beyond the table check", READING_BEYOND_CHECK, beyond),
     "stack": Bar("bytes of stack of a call", STACK, stacks),
     "corners": Bar("instructions of the corner program over those of reading its file, the largest", CORNERS, corners),

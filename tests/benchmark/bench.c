@@ -1,7 +1,7 @@
 /* Makes each call once on a table and its file, given on standard input: of the library (PREFIX kiln_) or of plain C
    (plain_). Run as `bench count` under callgrind it leaves one dump for each call, named like it; run as `bench stack`
-   it prints the bytes of stack of each call, as `bench time` the nanoseconds of each call. With a call's name after
-   that it makes that call only. */
+   it prints the bytes of stack of each call, as `bench time` the nanoseconds of each call. With names of calls after
+   that it makes those calls only. */
 #include "plain.h"
 
 #include <pthread.h>
@@ -13,7 +13,7 @@
 #include <valgrind/callgrind.h>
 
 static size_t w, h, tree_len, numbers_len, file_len;
-static uint8_t tree[1365], out[4489], tree_out[1365], file[32365];
+static uint8_t tree[1365], out[4489], tree_out[1365], file[32365], file_out[32365];
 static int64_t numbers[6196], numbers_out[6196];
 
 /* What the calls give beside a refusal number. */
@@ -73,6 +73,10 @@ static unsigned read_file(void) {
   return CALL(read_file)(file, file_len, tree_out, sizeof tree_out, numbers_out, numbers_len, &amount, &wide, &high);
 }
 
+static unsigned write_file(void) {
+  return CALL(write_file)(w, h, tree, tree_len, numbers, numbers_len, file_out, sizeof file_out, &amount);
+}
+
 struct call {
   const char *name;
   unsigned (*make)(void);
@@ -82,7 +86,7 @@ static const struct call calls[] = {
   {"nothing", nothing}, {"table_cause", table_cause}, {"least_level", least_level}, {"activity", activity},
   {"fresh", fresh}, {"set", set},
   {"insert", insert}, {"exact", exact}, {"watts", watts}, {"display", display}, {"cost", cost},
-  {"read_file", read_file},
+  {"read_file", read_file}, {"write_file", write_file},
 };
 
 enum { CALLS = sizeof calls / sizeof *calls, DEPTH = 1 << 17, UNUSED = 0xA5 };
@@ -148,8 +152,10 @@ static double nanoseconds(const struct call *call) {
 }
 
 /* Whether a call is to be made: each where none is named. */
-static bool asked(const struct call *call, const char *name) {
-  return !name || call->make == nothing || !strcmp(call->name, name);
+static bool asked(const struct call *call, char **names) {
+  if (!*names || call->make == nothing) return true;
+  while (*names && strcmp(call->name, *names)) names++;
+  return *names;
 }
 
 /* Reads so many bytes, written as numbers. */
@@ -170,19 +176,19 @@ static bool get_input(void) {
 }
 
 int main(int argc, char **argv) {
-  const char *name = argc == 3 ? argv[2] : NULL;
-  if (argc < 2 || argc > 3 || !get_input()) return 2;
+  char **names = argv + 2;
+  if (argc < 2 || !get_input()) return 2;
   /* No call may refuse; made once beforehand, none pays for being the first. */
   for (int k = 0; k < CALLS; k++)
-    if (asked(&calls[k], name) && calls[k].make()) return 1;
+    if (asked(&calls[k], names) && calls[k].make()) return 1;
   if (!strcmp(argv[1], "stack"))
     for (int k = 0; k < CALLS; k++)
-      if (asked(&calls[k], name)) printf("%s %zu\n", calls[k].name, depth(&calls[k]));
+      if (asked(&calls[k], names)) printf("%s %zu\n", calls[k].name, depth(&calls[k]));
   if (!strcmp(argv[1], "time"))
     for (int k = 0; k < CALLS; k++)
-      if (asked(&calls[k], name)) printf("%s %.1f\n", calls[k].name, nanoseconds(&calls[k]));
+      if (asked(&calls[k], names)) printf("%s %.1f\n", calls[k].name, nanoseconds(&calls[k]));
   if (!strcmp(argv[1], "count"))
     for (int k = 0; k < CALLS; k++)
-      if (asked(&calls[k], name)) count(&calls[k]);
+      if (asked(&calls[k], names)) count(&calls[k]);
   return 0;
 }

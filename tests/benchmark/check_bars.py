@@ -38,8 +38,8 @@ def by_count(table: str, call: str, bar: int, past: int) -> Figures:
     return made_up(table, call, ours=bar + past, theirs=bar + past)
 
 
-def by_ratio(table: str, call: str, past: int) -> Figures:
-    return made_up(table, call, ours=round(100 * bars.RATIO) + past)
+def by_ratio(table: str, call: str, bar: float, past: int) -> Figures:
+    return made_up(table, call, ours=round(100 * bar) + past)
 
 
 def by_stack(table: str, call: str, past: int) -> Figures:
@@ -54,17 +54,19 @@ def pushes() -> Iterator[Push]:
     """Every figure that a bar is held of, by itself: no code of bars.py says which these are."""
     for table in table_names():
         for call in calls_on(table):
-            yield "ratio", f"{CALLS[call]}, {table}", partial(by_ratio, table, call)
+            name, bar = ("ratio of writing", bars.RATIO_OF_WRITING) if call == "write_file" else ("ratio", bars.RATIO)
+            yield name, f"{CALLS[call]}, {table}", partial(by_ratio, table, call, bar)
             yield "stack", f"{CALLS[call]}, {table}", partial(by_stack, table, call)
         if BEYOND in counted_on(table):
-            yield "ratio", f"{BEYOND}, {table}", partial(by_ratio, table, BEYOND)
+            yield "ratio", f"{BEYOND}, {table}", partial(by_ratio, table, BEYOND, bars.RATIO)
             yield "beyond", table, partial(by_count, table, BEYOND, bars.READING_BEYOND_CHECK)
     for name, table, call, bar in (
             ("check", LARGEST, "table_cause", bars.CHECK),
             ("unrefined", UNREFINED, "table_cause", bars.CHECK_UNREFINED),
             *(("reading", LARGEST, call, bars.READING) for call in READINGS),
             ("insertion", LARGEST, "insert", bars.INSERTION),
-            ("file reading", LARGEST_FILE, "read_file", bars.FILE_READING)):
+            ("file reading", LARGEST_FILE, "read_file", bars.FILE_READING),
+            ("file writing", LARGEST_FILE, "write_file", bars.FILE_WRITING)):
         yield name, f"{CALLS[call]}, {table}", partial(by_count, table, call, bar)
     yield "corners", LARGEST_FILE, by_corners
 

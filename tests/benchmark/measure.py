@@ -20,13 +20,13 @@ sys.path += [str(ROOT / "tests/evaluator"), str(ROOT / "tests/differential")]
 
 import samples
 import tablefile
-from library import archive
+from library import archive, corner_program
 from surface import total_places
 
 # The calls by their names without kiln_, as bench.c has them.
 READINGS = {"exact": "Exact reading", "watts": "Reading as f64", "display": "Display", "cost": "Cost"}
 CALLS = {"table_cause": "Table check", "least_level": "Least level", "activity": "Activity", "fresh": "Fresh table",
-         "set": "Set", "insert": "Insertion", **READINGS, "read_file": "File reading"}
+         "set": "Set", "insert": "Insertion", **READINGS, "read_file": "File reading", "write_file": "File writing"}
 BEYOND = "Exact reading beyond the table check"
 SIZES, TURNS = (1, 4, 8), 3
 LARGEST, UNREFINED, LARGEST_FILE = "8 by 8, fully split", "8 by 8, unrefined", "8 by 8, all of level 3"
@@ -74,8 +74,8 @@ def table_names() -> Tuple[str, ...]:
 
 
 def calls_on(table: str) -> Tuple[str, ...]:
-    """The calls that are measured on a table: of that of the largest file only file reading."""
-    return ("read_file",) if table == LARGEST_FILE else tuple(CALLS)
+    """The calls that are measured on a table: of that of the largest file only file reading and writing."""
+    return ("read_file", "write_file") if table == LARGEST_FILE else tuple(CALLS)
 
 
 def counted_on(table: str) -> Tuple[str, ...]:
@@ -101,14 +101,14 @@ def programs() -> Tuple[str, str]:
 
 
 def said(program: str, what: str, text: str, *call: str) -> Dict[str, float]:
-    """What the program prints of each call, or of one."""
+    """What the program prints of each call, or of some."""
     command = [program, what, *call]
     lines = subprocess.run(command, cwd=BUILT, input=text, capture_output=True, text=True, check=True).stdout
     return {name: float(figure) for name, figure in (line.split() for line in lines.splitlines())}
 
 
 def counted(program: str, text: str, *call: str) -> Dict[str, int]:
-    """The instructions of each call, or of one, without those that it takes to be counted at all."""
+    """The instructions of each call, or of some, without those that it takes to be counted at all."""
     counts: Dict[str, int] = {}
     with tempfile.TemporaryDirectory() as room:
         # The names and the environment are the same everywhere: their length moves the stack, and fills with it.
@@ -138,9 +138,8 @@ def timed(both: Tuple[str, str], text: str, *call: str) -> Tuple[Dict[str, float
 
 def corners(t: samples.Table) -> int:
     """The instructions of the corner program on the file of a table, from start to end."""
-    subprocess.run(["rt", "check", "corners"], cwd=ROOT, check=True, stdout=subprocess.DEVNULL)
     with tempfile.TemporaryDirectory() as room:
-        command = [which("valgrind"), "--tool=callgrind", f"--callgrind-out-file={room}/out", "target/bin/corners"]
+        command = [which("valgrind"), "--tool=callgrind", f"--callgrind-out-file={room}/out", str(corner_program())]
         run = subprocess.run(command, cwd=ROOT, input=tablefile.write_file(*t), capture_output=True, check=True,
                              env=NO_REP)
     return int(re.search(rb"refs:\s+([\d,]+)", run.stderr).group(1).replace(b",", b""))

@@ -1,8 +1,8 @@
 /* File reading in plain C: the file is judged whole in byte order first, then the outputs are written. */
 #include "plain_inside.h"
 
-/* A field's head is a tag and a two-byte length; the sides' field is the first, so that the tree's body is at 8. */
-enum { HEAD = 3, TAG_SIDES = 1, TAG_TREE = 2, TAG_LEVEL_0 = 16, TREE_AT = 5, TREE_BODY = 8, NUMBER_BYTES = 5 };
+/* The sides' field is the first, so that the tree's body is at 8. */
+enum { TREE_AT = HEAD + SIDES_BYTES, TREE_BODY = TREE_AT + HEAD };
 
 struct file {
   const uint8_t *bytes;
@@ -40,8 +40,7 @@ static inline size_t count_word(uint64_t word, size_t e, size_t n) {
   return (size_t)__builtin_popcountll(word & every[e] & (((uint64_t)1 << n * e) - 1));
 }
 
-/* How many functions of a level are active. */
-static size_t active_count(const struct regions *regions, size_t w, size_t h, size_t level) {
+size_t active_count(const struct regions *regions, size_t w, size_t h, size_t level) {
   size_t n = functions(w, level), m = functions(h, level), found = 0;
   for (size_t b = 0; b < m; b++) {
     struct marks row = active_row(regions, w, h, level, b);
@@ -64,7 +63,7 @@ static uint8_t judge_level(const struct file *file, size_t at, const struct regi
 
 /* All fields in byte order: the regions, and the positions after the tree's field and after the last. */
 static uint8_t judge(const struct file *file, struct regions *regions, size_t *tree_end, size_t *last) {
-  uint8_t cause = field_at(file, 0, TAG_SIDES, 2, 2, last);
+  uint8_t cause = field_at(file, 0, TAG_SIDES, SIDES_BYTES, SIDES_BYTES, last);
   if (cause) return cause;
   size_t w = file->bytes[HEAD], h = file->bytes[HEAD + 1];
   if (!good_sides(w, h)) return BAD_SIDE;
@@ -93,10 +92,15 @@ static inline const uint8_t *load_row(const uint8_t *body, struct marks m, size_
   return body;
 }
 
-/* A level's part of the coefficients: the active ones take the body's numbers in slice order, the others 0. */
-static void load_level(const uint8_t *body, const struct regions *regions, size_t w, size_t h, size_t level,
+/* A level's part of the coefficients: the active ones take the body's numbers in slice order, the others 0; a body of
+   no bytes has none. */
+static void load_level(const uint8_t *body, size_t len, const struct regions *regions, size_t w, size_t h, size_t level,
                        int64_t *out) {
   size_t n = functions(w, level), m = functions(h, level);
+  if (!len) {
+    memset(out, 0, n * m * sizeof *out);
+    return;
+  }
   for (size_t b = 0; b < m; b++, out += n)
     body = load_row(body, active_row(regions, w, h, level, b), eighths(level), n, out);
 }
@@ -114,8 +118,9 @@ uint8_t plain_read_file(const uint8_t *bytes, size_t len, uint8_t *tree_out, siz
   if (tree_out_len < n) return TREE_OUTPUT_SHORT;
   memcpy(tree_out, bytes + TREE_BODY, n);
   for (size_t level = 0, at = tree_end; level < LEVELS; level++) {
-    load_level(bytes + at + HEAD, &regions, wide, high, level, numbers_out + start(wide, high, level));
-    at += HEAD + length_at(bytes + at);
+    size_t body = length_at(bytes + at);
+    load_level(bytes + at + HEAD, body, &regions, wide, high, level, numbers_out + start(wide, high, level));
+    at += HEAD + body;
   }
   *length = n;
   *w = wide;

@@ -34,8 +34,8 @@ def paragraphs() -> List[str]:
         "those of the day it was made, and `check_plain.py` holds the C program to the evaluator.",
         "The least level is asked over the whole sheet, the activity of level 3; one coefficient of level 0 is set; "
         "the whole sheet is raised to level 3; readings are taken at (64 W + 5, 64 H + 7), the tariff is 1,500; the "
-        "file that is read is the table's, and the largest is that of 8 by 8 with the tree 3, 22,445 bytes of "
-        "coefficients. "
+        "file that is read and written is the table's, and the largest is that of 8 by 8 with the tree 3, 22,445 "
+        "bytes of coefficients. "
         "Callgrind counts each repetition of a rep instruction, so on both sides memory is filled and copied without. "
         "No call allocates.",
     ]
@@ -58,7 +58,8 @@ def bar_table(figures: Figures) -> List[str]:
 
 
 def call_table(call: str, title: str, figures: Figures) -> List[str]:
-    bytes_of = "file" if call == "read_file" else "tree"
+    of_file = call in ("read_file", "write_file")
+    bytes_of = "file" if of_file else "tree"
     head = f"| table | {bytes_of} bytes | library | C | ratio |"
     if call != BEYOND:
         head += " library, µs | C, µs | ratio |"
@@ -68,7 +69,7 @@ def call_table(call: str, title: str, figures: Figures) -> List[str]:
         if call not in library.counts:
             continue
         ours, theirs = library.counts[call], plain.counts[call]
-        size = len(tablefile.write_file(*t) if call == "read_file" else t.tree)
+        size = len(tablefile.write_file(*t) if of_file else t.tree)
         line = f"| {name} | {size:,} | {ours:,} | {theirs:,} | {ours / theirs:.2f} |"
         if call != BEYOND:
             ours, theirs = library.times[call], plain.times[call]

@@ -20,14 +20,11 @@ import refined_copy
 import samples
 import tablefile
 import told_in_pages
+from library import corner_program
 from make_tables import TABLES
 
-PROGRAM = ROOT / "target/bin/corners"
+PROGRAM = corner_program()
 HELD = 65_536
-
-
-def build() -> None:
-    subprocess.run(["rt", "check", "corners"], cwd=ROOT, check=True, stdout=subprocess.DEVNULL)
 
 
 def printed(file: bytes) -> List[str]:
@@ -63,7 +60,6 @@ def largest() -> bytes:
 
 
 def main() -> int:
-    build()
     faults = 0
     for name, file in TABLES.items():
         if (ROOT / "tables" / f"{name}.table").read_bytes() != file:

@@ -10,6 +10,7 @@ from typing import Callable, Dict, Iterator, List, Tuple
 import cases
 from cases import calls, samples
 from library import Library, differ, numbers, octets
+from saving import drawn
 from surface import D
 
 
@@ -22,7 +23,7 @@ def exact(lib: Library, t: samples.Table, values: List[int], point: samples.Poin
 
 def linear(rng: Random, lib: Library) -> Iterator[str]:
     """"at every point the first's exact reading is a times the second's plus b times the third's"."""
-    t = cases.table(rng)
+    t = drawn(lib, cases.table(rng))
     surface = calls.surface_of(t.w, t.h, t.tree)
     second, third = (samples.random_coefficients(rng, surface, 16) for _ in range(2))
     a, b = rng.randint(-7, 7), rng.randint(-7, 7)
@@ -36,7 +37,7 @@ def linear(rng: Random, lib: Library) -> Iterator[str]:
 def bracketed(rng: Random, lib: Library) -> Iterator[str]:
     """"each exact reading lies between the least and the greatest active coefficient, in watts, whose support holds
     the point"."""
-    t = cases.table(rng)
+    t = drawn(lib, cases.table(rng))
     surface = calls.surface_of(t.w, t.h, t.tree)
     for point in samples.random_points(rng, t.w, t.h, 12):
         least, greatest = surface.coefficient_range(t.coefficients, *point)

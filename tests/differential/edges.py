@@ -1,4 +1,4 @@
-"""Fixed cases at the edges: boxes, halves, limits, the largest tree, long slices, ends of sheets and of rows.
+"""Fixed cases at the edges: boxes, halves, limits, the largest tree and file, long slices, ends of sheets and of rows.
 
 What is due is worked by hand where it is written out, and else the unrelated evaluator's.
 """
@@ -9,8 +9,10 @@ from typing import Callable, Iterator, List, Sequence, Tuple
 
 import insertions
 from cases import calls, quadtree, samples
+from files import small
 from library import Library, differ, numbers, octets
-from surface import D, LEVELS, TREE_SIDE, Box, LevelMap, place_count, total_places
+from saving import GREATEST_FILE, file_length, write
+from surface import D, LEVELS, TREE_SIDE, Box, LevelMap, coefficient_limit, place_count, total_places
 from tables import READINGS, read_at, words
 from tablefile import write_file
 
@@ -168,6 +170,7 @@ def largest_tree(rng: Random, lib: Library) -> Iterator[str]:
                             ("largest tree, longer", file + bytes(65_536))):
             yield file_read(lib, told, given, t, GREATEST)
         yield file_read(lib, "largest tree", file, t, GREATEST - 1)
+        yield from (write(lib, t, length) for length in (len(file) - 1, len(file), GREATEST_FILE))
 
 
 def largest_made(rng: Random, lib: Library) -> Iterator[str]:
@@ -187,6 +190,7 @@ def long_tables(lib: Library, t: samples.Table, due: int) -> Iterator[str]:
     yield differ(f"table, {told}", lib.table_cause(*lent(t)), want)
     yield differ(f"set, {told}", lib.set_coefficient(*lent(t), 0, -2, -2, 5), want)
     yield differ(f"insert, {told}", lib.insert(*lent(t), (0, 0, 4, 4), 1, *outputs), want)
+    yield from (write(lib, t, length) for length in (100, 200))
     for name in READINGS:
         place = (9, 9, 1_500) if name == "cost" else (9, 9)
         yield differ(f"{name}, {told}", getattr(lib, name)(*lent(t), *place), want)
@@ -211,6 +215,7 @@ def long_slices(lib: Library) -> Iterator[str]:
             yield file_read(lib, "long numbers", file, t, GREATEST, more)
             yield from (file_read(lib, "long tree output", file, t, n) for n in (more, more + 1))
             yield file_read(lib, "a long file", file + bytes(more), t, GREATEST)
+            yield from (write(lib, t, length) for length in (more, more + len(file) - 1, more + len(file)))
         yield differ("fresh, long numbers", lib.fresh(1, 1, 700, octets([9]), numbers([7] * (211 + more))),
                      ("refused", 16))
         for length in (more, more + 1):
@@ -264,8 +269,50 @@ def rows_carried(rng: Random, lib: Library) -> Iterator[str]:
         yield insert(lib, samples.random_table(rng, w, h), whole, 3)
 
 
+def active_places(t: samples.Table) -> List[int]:
+    return [place for place, limit in enumerate(t.surface().limits()) if limit is not None]
+
+
+def with_numbers(t: samples.Table, values: Sequence[int]) -> samples.Table:
+    """The table with these numbers by turns at its active places."""
+    made = [0] * len(t.coefficients)
+    for at, place in enumerate(active_places(t)):
+        made[place] = values[at % len(values)]
+    return t._replace(coefficients=made)
+
+
+def saved_numbers(rng: Random, lib: Library) -> Iterator[str]:
+    """"five bytes each, two's complement, high byte first": of each level the greatest and the least number, those
+    where a byte more is needed, and the first past the limits."""
+    around = [sign * (2**bit + off) for bit in (0, 7, 8, 15, 16, 23, 24, 31, 32) for off in (-1, 0, 1)
+              for sign in (1, -1)]
+    for level in LEVELS:
+        limit, t = coefficient_limit(level), whole_at(rng, 2, 1, level)
+        n = file_length(t)
+        good = [limit, -limit, limit - 1, 1 - limit] + [number for number in around if abs(number) <= limit]
+        yield from (write(lib, with_numbers(t, values), length) for values in (good, [limit], [-limit], [-1], [0])
+                    for length in (n - 1, n))
+        for place in (active_places(t)[0], active_places(t)[-1]):
+            for number in (limit + 1, -limit - 1, 2**39 - 1, -2**39, 2**40, -2**40, -2**63, 2**63 - 1):
+                over = t.coefficients[:place] + [number] + t.coefficients[place + 1:]
+                yield from (write(lib, t._replace(coefficients=over), length) for length in (n - 1, n))
+
+
+def saved_lengths(lib: Library) -> Iterator[str]:
+    """"file output shorter than the file": every output up to the length of a small file and a little past it, and
+    both sides of the length of 8 by 8 with all of level 3."""
+    t = small()
+    yield from (write(lib, t, length) for length in range(file_length(t) + 4))
+    limit = coefficient_limit(3)
+    for values in ([limit, -limit], [-1], [-limit], [(-1)**at * (limit - at) for at in range(4_489)]):
+        whole = with_numbers(samples.Table(8, 8, [3], [0] * 6_196), values)
+        n = file_length(whole)
+        yield from (write(lib, whole, length) for length in (0, n - 5, n - 1, n, n + 1, GREATEST_FILE))
+
+
 def fixed(rng: Random, lib: Library) -> List[str]:
     parts: Sequence[Iterator[str]] = (
         boxes(lib), halves(lib), limits(lib), long_slices(lib), one_leaf(lib), places_set(rng, lib),
-        largest_tree(rng, lib), largest_made(rng, lib), rows_carried(rng, lib))
+        largest_tree(rng, lib), largest_made(rng, lib), rows_carried(rng, lib), saved_numbers(rng, lib),
+        saved_lengths(lib))
     return [fault for part in parts for fault in part if fault]

@@ -9,6 +9,7 @@ import cases
 import tablefile
 from cases import calls, quadtree, samples
 from library import Library, differ, numbers, octets
+from saving import drawn
 from surface import coefficient_limit, total_places
 from tablefile import COEFFICIENT_BYTES, HEAD, TAG_LEVEL_0, TAG_SIDES, TAG_TREE, coefficient_bytes, field, write_file
 
@@ -158,7 +159,7 @@ def lengths(rng: Random, t: samples.Table) -> Tuple[int, int]:
 
 def read_file(rng: Random, lib: Library) -> Iterator[str]:
     """Files of a table, each with no fault, one or two, read into outputs of any lengths."""
-    t = cases.table(rng)
+    t = drawn(lib, cases.table(rng))
     fields = fields_of(t)
     for _ in range(12):
         kinds = rng.choices(IN_FIELDS + IN_BYTES, k=rng.choice((0, 0, 1, 1, 2)))

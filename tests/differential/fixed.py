@@ -1,5 +1,5 @@
-"""Fixed cases: document 01's bench sheet, two faults at once, edges, table files, and whole grids around
-insertions."""
+"""Fixed cases: document 01's bench sheet, two faults at once, edges, table files, and whole grids around insertions;
+then all that was seen in them saved and loaded again."""
 from __future__ import annotations
 
 from functools import partial
@@ -10,6 +10,7 @@ import cases
 import edges
 import files
 import insertions
+import saving
 from cases import samples
 from library import Library, differ, numbers, octets
 from tables import READINGS
@@ -58,6 +59,14 @@ def insertion(lib: Library, words: str, w: int, h: int, tree: List[int], values:
     tree_out, numbers_out = octets([9] * lengths[0]), numbers([7] * lengths[1])
     got = lib.insert(w, h, octets(tree), numbers(values), box, level, tree_out, numbers_out)
     return differ(words, got, want, *zip((tree_out, numbers_out), after))
+
+
+def saved(lib: Library, words: str, w: int, h: int, tree: List[int], values: List[int], length: int, want: Tuple,
+          file: bytes = b"") -> str:
+    """A table saved to an output of this length: the file and what lay past it, or, of a refusal, what lay there."""
+    file_out = octets([9] * length)
+    got = lib.write_file(w, h, octets(tree), numbers(values), file_out)
+    return differ(f"write_file, {words}", got, want, (file_out, file + bytes([9]) * (length - len(file))))
 
 
 def bench_sheet(lib: Library) -> List[str]:
@@ -131,6 +140,31 @@ def bench_insertions(lib: Library) -> List[str]:
     ]
 
 
+def bench_files(lib: Library) -> List[str]:
+    """The files of the bench sheet's tables, written out by hand, and both sides of each one's length."""
+    columns = "fffffffc18 0000000000 00000003e8 00000007d0", "ffffff8300 0000000000 0000007d00 000000fa00 0000017700"
+    tree, none = "02000d 04040401 000000000000000000", "120000 130000"
+    seven_1 = [0, 700, 700, 700, 700] * 4 + ([44_800] * 2 + [0] * 5) * 5 + [0] * 286
+    # The greatest and the least number of level 3, and -1; 22,445 bytes, 57ad, of numbers.
+    ends, whole = [32_000 * 64**3, -32_000 * 64**3, -1], "01f4000000 fe0c000000 ffffffffff" + "00" * 22_430
+    rows = (
+        ("S", 1, 1, FLAT, S, 101, "0100020101 02000100 100050" + columns[0] * 4 + "110000" + none),
+        ("S with level 1", 1, 1, REFINED, S_1, 158,
+         "0100020101" + tree + "100000 11007d" + columns[1] * 5 + none),
+        ("700 watts on 2 by 1", 2, 1, REFINED, seven_1, 163,
+         "0100020201" + tree + "100050" + "00000002bc" * 16 + "110032" + "000000af00" * 10 + none),
+        ("8 by 8, tree 3", 8, 8, [3], [0] * 1_707 + ends + [0] * 4_486, 22_466,
+         "0100020808 02000103 100000 110000 120000 1357ad" + whole),
+    )
+    found = []
+    for words, w, h, regions, values, n, text in rows:
+        found += [saved(lib, f"{words}, {length} bytes", w, h, regions, values, length, ("ok", n), bytes.fromhex(text))
+                  for length in (n, n + 1, n + 50, saving.GREATEST_FILE)]
+        found += [saved(lib, f"{words}, {length} bytes give 18", w, h, regions, values, length, ("refused", 18))
+                  for length in (0, 1, n // 2, n - 1)]
+    return found
+
+
 def two_faults_of_tables(lib: Library) -> List[str]:
     """Tables with two faults, lent to every call that judges a table: the lower number wins."""
     tables = (
@@ -151,6 +185,7 @@ def two_faults_of_tables(lib: Library) -> List[str]:
         faults.append(differ(f"table, {words}", lib.table_cause(*lent), want))
         faults.append(differ(f"set, {words}", lib.set_coefficient(*lent, 0, -2, -2, 5), want))
         faults.append(differ(f"insert, {words}", lib.insert(*lent, WHOLE, 1, *outputs), want))
+        faults += [saved(lib, f"{words}, into {length}", *t, length, want) for length in (0, 100, saving.GREATEST_FILE)]
         for name in READINGS:
             place = (9, 9, 1_500) if name == "cost" else (9, 9)
             faults.append(differ(f"{name}, {words}", getattr(lib, name)(*lent, *place), want))
@@ -160,7 +195,7 @@ def two_faults_of_tables(lib: Library) -> List[str]:
 def two_faults_of_calls(lib: Library) -> List[str]:
     """Calls with two faults of which one at most is the table's: the lower number wins."""
     after, read, level, marks, new = (partial(one, lib) for one in (insertion, reading, least, activity, fresh))
-    passive = S[:-1] + [1]
+    passive, save = S[:-1] + [1], partial(saved, lib)
     no_box, no_level = (0, 0, 5, 4), (0, 4)
 
     def put(words: str, tree: List[int], values: List[int], place: Tuple[int, int, int], value: int, n: int) -> str:
@@ -189,6 +224,11 @@ def two_faults_of_calls(lib: Library) -> List[str]:
         put("set, 5 with 8", FLAT, passive, (4, 0, 0), 0, 5),
         put("set, 8 with 9", FLAT, S, (4, -4, 0), 0, 8),
         put("set, 9 with 10", FLAT, S, (1, 0, 0), 2_048_001, 9),
+        save("1 with 18", 1, 9, FLAT, S, 100, ("refused", 1)),
+        save("2 with 18", 1, 1, [5], S, 100, ("refused", 2)),
+        save("3 with 18", 1, 1, FLAT, S[:-1], 100, ("refused", 3)),
+        save("4 with 18", 1, 1, FLAT, S[:15] + [32_001] + S[16:], 100, ("refused", 4)),
+        save("5 with 18", 1, 1, FLAT, passive, 100, ("refused", 5)),
     ]
 
 
@@ -201,9 +241,10 @@ def whole_grids(rng: Random, lib: Library) -> List[str]:
 def faults(lib: Library, seed: int, grids: bool) -> List[str]:
     """What is not as it should be in any fixed case, whole grids among them or not; the seed draws lists of insertions
     and files."""
-    found = bench_sheet(lib) + bench_readings(lib) + bench_insertions(lib)
+    found = bench_sheet(lib) + bench_readings(lib) + bench_insertions(lib) + bench_files(lib)
     found += two_faults_of_tables(lib) + two_faults_of_calls(lib)
     if grids:
         found += whole_grids(Random(seed), lib)
     found += edges.fixed(Random(seed), lib) + files.fixed(Random(seed), lib)
+    found += saving.again(lib)
     return [fault for fault in found if fault]

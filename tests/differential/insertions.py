@@ -7,6 +7,7 @@ from typing import Callable, Dict, Iterator, List, Sequence, Tuple
 import cases
 from cases import calls, samples
 from library import Library, differ, numbers, octets
+from saving import drawn
 
 
 def made(lib: Library, t: samples.Table, one: samples.Insertion) -> Tuple[str, samples.Table]:
@@ -55,14 +56,14 @@ def list_made(
 
 
 def insert(rng: Random, lib: Library) -> Iterator[str]:
-    whole = cases.insertion_table(rng)
+    whole = drawn(lib, cases.insertion_table(rng))
     for _ in range(4):
         t = cases.sometimes_damaged(rng, whole)
         yield made(lib, t, cases.insertion(rng, t))[0]
 
 
 def insertions(rng: Random, lib: Library) -> Iterator[str]:
-    t = cases.sometimes_damaged(rng, cases.insertion_table(rng), 0.03)
+    t = cases.sometimes_damaged(rng, drawn(lib, cases.insertion_table(rng)), 0.03)
     return list_made(rng, lib, t, rng.randint(1, 6), cases.reading_points(rng, t.w, t.h))
 
 

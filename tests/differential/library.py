@@ -7,10 +7,12 @@ import subprocess
 import tempfile
 from array import array
 from pathlib import Path
-from typing import Callable, Dict, List, NamedTuple, Sequence, Tuple
+from typing import Callable, Dict, List, NamedTuple, Optional, Sequence, Tuple
 
 ROOT = Path(__file__).resolve().parents[2]
 MASK = (1 << 64) - 1
+# A table: its sides, its tree, and its numbers as they lie in memory.
+Held = Tuple[int, int, bytes, bytes]
 GUARD = 64
 EDGE = b"\x5A" * GUARD
 # What a scalar holds before a call: every byte is set, and no call gives that value.
@@ -21,13 +23,22 @@ NUMBER_BEFORE = SIZE_BEFORE - 2**64
 WATTS_BEFORE = 0xFFF2_3456_789A_BCDE
 
 
-def archive() -> Path:
-    """The compiled library; it is proved and compiled where its sources are newer."""
-    made = ROOT / "target/staticlib/libkiln.a"
+def built(made: Path, *command: str) -> Path:
+    """A file that the command makes; it is proved and compiled where the sources are newer."""
     newest = max(one.stat().st_mtime for one in (ROOT / "crates").rglob("*"))
     if not made.exists() or made.stat().st_mtime < newest:
-        subprocess.run(["rt", "staticlib", "kiln"], cwd=ROOT, check=True, stdout=subprocess.DEVNULL)
+        subprocess.run(command, cwd=ROOT, check=True, stdout=subprocess.DEVNULL)
     return made
+
+
+def archive() -> Path:
+    """The compiled library."""
+    return built(ROOT / "target/staticlib/libkiln.a", "rt", "staticlib", "kiln")
+
+
+def corner_program() -> Path:
+    """The compiled corner program."""
+    return built(ROOT / "target/bin/corners", "rt", "check", "corners")
 
 
 def shared() -> ctypes.CDLL:
@@ -40,11 +51,13 @@ def shared() -> ctypes.CDLL:
 
 
 class Lent:
-    """A slice lent to a call: its elements (array's type code) between guard bytes, which no call may change."""
+    """A slice lent to a call: its elements (array's type code) between guard bytes, which no call may change. They are
+    given as numbers or as the bytes in memory."""
 
     def __init__(self, code: str, values: Sequence[int]) -> None:
-        self.code, self.n = code, len(values)
-        self.before = EDGE + array(code, values).tobytes() + EDGE
+        held = array(code, values)
+        self.code, self.n, self.given = code, len(held), held.tobytes()
+        self.before = EDGE + self.given + EDGE
         self.whole = ctypes.create_string_buffer(self.before, len(self.before))
 
     def passed(self) -> Tuple:
@@ -58,6 +71,9 @@ class Lent:
 
     def values(self) -> List[int]:
         return array(self.code, self.contents()).tolist()
+
+    def holds(self, values: Sequence[int]) -> bool:
+        return self.contents() == array(self.code, values).tobytes()
 
     def guarded(self) -> bool:
         now = self.whole.raw
@@ -126,7 +142,7 @@ def differ(words: str, got: Answer, want: Tuple, *after: Tuple[Lent, Sequence[in
     """
     if got.said() != want:
         return f"{words}: answers {got.said()}, should be {want}"
-    should = {id(lent): list(values) for lent, values in after}
+    should = {id(lent): values for lent, values in after}
     for at, lent in enumerate(got.lent):
         if id(lent) not in should and lent.unchanged():
             continue
@@ -134,7 +150,7 @@ def differ(words: str, got: Answer, want: Tuple, *after: Tuple[Lent, Sequence[in
         if not lent.guarded():
             return f"{words}: wrote beside {what}"
         if id(lent) in should:
-            if lent.values() != should[id(lent)]:
+            if not lent.holds(should[id(lent)]):
                 return f"{words}: {what} is not as it should be"
         elif got.cause or not isinstance(lent, Scalar):
             return f"{words}: {what} was changed"
@@ -153,13 +169,23 @@ class Inside:
         return function(*(x for one in given for x in (one.passed() if isinstance(one, Lent) else (one,))))
 
 
+class Seen:
+    """Tables that were drawn or that accepted calls took or made; files that loaded, each with its table. All once."""
+
+    def __init__(self) -> None:
+        self.tables: Dict[Held, None] = {}
+        self.files: Dict[bytes, Held] = {}
+
+
 class Library:
-    """The calls, made in one way, and how many were accepted and refused by kind."""
+    """The calls, made in one way, and how many were accepted and refused by kind; what was seen, where that is asked
+    for."""
 
     def __init__(self, make: Callable[[str, Sequence], int]) -> None:
         self.make = make
         self.kind = ""
         self.counts: Dict[str, List[int]] = {}
+        self.seen: Optional[Seen] = None
 
     def made(self) -> int:
         return sum(map(sum, self.counts.values()))
@@ -170,6 +196,23 @@ class Library:
         self.counts.setdefault(kind, [0, 0])[cause != 0] += 1
         return Answer(cause, [one for one in given if isinstance(one, Lent)])
 
+    def see(self, w: int, h: int, tree: bytes, values: bytes) -> None:
+        if self.seen is not None:
+            self.seen.tables[w, h, tree, values] = None
+
+    def _taken(self, name: str, w: int, h: int, tree: Lent, values: Lent, *given) -> Answer:
+        """A call that takes a table."""
+        got = self._call(name, size(w), size(h), tree, values, *given)
+        if not got.cause:
+            self.see(w, h, tree.given, values.given)
+        return got
+
+    def _made(self, got: Answer, w: int, h: int, tree_out: Lent, numbers_out: Lent) -> Answer:
+        """A call that made a table where it was accepted; its first scalar then has the tree's length."""
+        if not got.cause:
+            self.see(w, h, tree_out.contents()[:got.said()[1]], numbers_out.contents())
+        return got
+
     def least_level(self, w: int, h: int, tree: Lent, box: Tuple[int, int, int, int]) -> Answer:
         return self._call("least_level", size(w), size(h), tree, *map(size, box), Scalar("B", LEVEL_BEFORE),
                           Scalar("Q", SIZE_BEFORE))
@@ -178,33 +221,45 @@ class Library:
         return self._call("activity", size(w), size(h), tree, size(level), out)
 
     def fresh(self, w: int, h: int, value: int, tree_out: Lent, numbers_out: Lent) -> Answer:
-        return self._call("fresh", size(w), size(h), number(value), tree_out, numbers_out, Scalar("Q", SIZE_BEFORE))
+        got = self._call("fresh", size(w), size(h), number(value), tree_out, numbers_out, Scalar("Q", SIZE_BEFORE))
+        return self._made(got, w, h, tree_out, numbers_out)
 
     def insert(self, w: int, h: int, tree: Lent, values: Lent, box: Tuple[int, int, int, int], level: int,
                tree_out: Lent, numbers_out: Lent) -> Answer:
-        return self._call("insert", size(w), size(h), tree, values, *map(size, box), size(level), tree_out,
-                          numbers_out, Scalar("Q", SIZE_BEFORE))
+        got = self._taken("insert", w, h, tree, values, *map(size, box), size(level), tree_out, numbers_out,
+                          Scalar("Q", SIZE_BEFORE))
+        return self._made(got, w, h, tree_out, numbers_out)
 
     def set_coefficient(self, w: int, h: int, tree: Lent, values: Lent, level: int, i: int, j: int,
                         value: int) -> Answer:
-        return self._call("set", size(w), size(h), tree, values, size(level), number(i), number(j), number(value))
+        got = self._taken("set", w, h, tree, values, size(level), number(i), number(j), number(value))
+        if not got.cause:
+            self.see(w, h, tree.given, values.contents())
+        return got
 
     def table_cause(self, w: int, h: int, tree: Lent, values: Lent) -> Answer:
-        return self._call("table_cause", size(w), size(h), tree, values)
+        return self._taken("table_cause", w, h, tree, values)
 
     def exact(self, w: int, h: int, tree: Lent, values: Lent, u: int, v: int) -> Answer:
-        return self._call("exact", size(w), size(h), tree, values, size(u), size(v), Scalar("q", NUMBER_BEFORE))
+        return self._taken("exact", w, h, tree, values, size(u), size(v), Scalar("q", NUMBER_BEFORE))
 
     def watts(self, w: int, h: int, tree: Lent, values: Lent, u: int, v: int) -> Answer:
-        return self._call("watts", size(w), size(h), tree, values, size(u), size(v), Float())
+        return self._taken("watts", w, h, tree, values, size(u), size(v), Float())
 
     def display(self, w: int, h: int, tree: Lent, values: Lent, u: int, v: int) -> Answer:
-        return self._call("display", size(w), size(h), tree, values, size(u), size(v), Scalar("q", NUMBER_BEFORE))
+        return self._taken("display", w, h, tree, values, size(u), size(v), Scalar("q", NUMBER_BEFORE))
 
     def cost(self, w: int, h: int, tree: Lent, values: Lent, u: int, v: int, tariff: int) -> Answer:
-        return self._call("cost", size(w), size(h), tree, values, size(u), size(v), size(tariff),
-                          Scalar("Q", SIZE_BEFORE))
+        return self._taken("cost", w, h, tree, values, size(u), size(v), size(tariff), Scalar("Q", SIZE_BEFORE))
 
     def read_file(self, file: Lent, tree_out: Lent, numbers_out: Lent) -> Answer:
         """The scalars receive the tree's length and the sides."""
-        return self._call("read_file", file, tree_out, numbers_out, *(Scalar("Q", SIZE_BEFORE) for _ in range(3)))
+        got = self._call("read_file", file, tree_out, numbers_out, *(Scalar("Q", SIZE_BEFORE) for _ in range(3)))
+        if not got.cause and self.seen is not None:
+            length, w, h = got.said()[1:]
+            self.seen.files[file.given] = w, h, tree_out.contents()[:length], numbers_out.contents()
+        return got
+
+    def write_file(self, w: int, h: int, tree: Lent, values: Lent, file_out: Lent) -> Answer:
+        """The scalar receives the file's length."""
+        return self._taken("write_file", w, h, tree, values, file_out, Scalar("Q", SIZE_BEFORE))

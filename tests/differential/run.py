@@ -24,8 +24,9 @@ import demands
 import files
 import fixed
 import insertions
+import saving
 import tables
-from library import ROOT, Inside, Library, shared
+from library import ROOT, Inside, Library, Seen, shared
 
 # Each landing raises this number by one, so that it draws other calls than those before it.
 SEED = int((ROOT / "tests/differential/seed.txt").read_text(encoding="utf-8"))
@@ -39,23 +40,25 @@ FIXED, LIMIT_SECONDS = -1, 600
 Begun = Callable[[int], None]
 
 KINDS: Dict[str, Callable[[Random, Library], Iterator[str]]] = {
-    **tables.KINDS, **insertions.KINDS, **files.KINDS, **demands.KINDS}
+    **tables.KINDS, **insertions.KINDS, **files.KINDS, **saving.KINDS, **demands.KINDS}
 
 
 def one_case(lib: Library, number: int, seed: int) -> Iterator[str]:
-    """Makes the calls of the generated case of this number: for each what is not as it should be, or nothing."""
-    lib.kind = list(KINDS)[number % len(KINDS)]
-    return KINDS[lib.kind](Random(seed * 1_000_003 + number), lib)
+    """Makes the calls of the generated case of this number: for each what is not as it should be, or nothing. Then
+    saves and loads all that was seen in it, and gives what is not as it should be there."""
+    lib.kind, lib.seen = list(KINDS)[number % len(KINDS)], Seen()
+    yield from KINDS[lib.kind](Random(seed * 1_000_003 + number), lib)
+    yield from saving.again(lib)
 
 
 def one_sided(counts: Dict[str, List[int]]) -> List[str]:
     """A line for each kind of call that was never made, accepted or refused, so that the run shows little of it.
-    Demand 3 is about readings of acceptable tables, none of which is refused."""
-    made = {kind.split(",")[0] for kind in counts}
-    return [f"{kind}: never made" for kind in KINDS if kind not in made] + [
+    Demand 3 is about readings of acceptable tables, and what is saved again is acceptable: none of it is refused."""
+    made, acceptable = {kind.split(",")[0] for kind in counts}, (*demands.KINDS, saving.AGAIN)
+    return [f"{kind}: never made" for kind in (*KINDS, saving.AGAIN) if kind not in made] + [
         f"{kind}: never {word}" for kind, given in counts.items()
         for word, count in zip(("accepted", "refused"), given)
-        if count == 0 and (word == "accepted" or kind.split(",")[0] not in demands.KINDS)]
+        if count == 0 and (word == "accepted" or kind.split(",")[0] not in acceptable)]
 
 
 def generated(lib: Library, words: str, command: str, asked: Namespace, begun: Begun) -> Tuple[int, int]:
@@ -101,6 +104,7 @@ def work(lib: Library, words: str, command: str, asked: Namespace, grids: bool, 
         faults = len(found)
     else:
         begun(FIXED)
+        lib.seen = Seen()
         wrong = fixed.faults(lib, asked.seed, grids) if asked.first == 0 else []
         for fault in wrong:
             print(f"fixed case: {fault[:2000]}\nalone: {alone(command, asked, FIXED)}", flush=True)

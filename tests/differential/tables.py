@@ -10,6 +10,7 @@ from typing import Callable, Dict, Iterator
 import cases
 from cases import calls, samples
 from library import Library, differ, numbers, octets
+from saving import drawn
 
 READINGS = ("exact", "watts", "display", "cost")
 
@@ -20,7 +21,7 @@ def words(name: str, t: samples.Table, *more) -> str:
 
 
 def least_level(rng: Random, lib: Library) -> Iterator[str]:
-    whole = cases.table(rng)
+    whole = drawn(lib, cases.table(rng))
     for _ in range(30):
         t = cases.sometimes_damaged(rng, whole)
         box = cases.box(rng, t.w, t.h)
@@ -30,7 +31,7 @@ def least_level(rng: Random, lib: Library) -> Iterator[str]:
 
 
 def activity(rng: Random, lib: Library) -> Iterator[str]:
-    whole = cases.table(rng)
+    whole = drawn(lib, cases.table(rng))
     for _ in range(12):
         t = cases.sometimes_damaged(rng, whole)
         level = rng.choice((0, 1, 2, 3, 0, 1, 2, 3, 4, 2**40))
@@ -55,7 +56,7 @@ def fresh(rng: Random, lib: Library) -> Iterator[str]:
 
 
 def set_coefficient(rng: Random, lib: Library) -> Iterator[str]:
-    whole = cases.table(rng)
+    whole = drawn(lib, cases.table(rng))
     for _ in range(12):
         t = cases.sometimes_damaged(rng, whole)
         place = cases.setting(rng, t)
@@ -66,7 +67,7 @@ def set_coefficient(rng: Random, lib: Library) -> Iterator[str]:
 
 
 def table_cause(rng: Random, lib: Library) -> Iterator[str]:
-    whole = cases.table(rng)
+    whole = drawn(lib, cases.table(rng))
     for k in range(12):
         t = cases.damaged(rng, whole) if k else whole
         got = lib.table_cause(t.w, t.h, octets(t.tree), numbers(t.coefficients))
@@ -89,7 +90,7 @@ def read_at(lib: Library, name: str, t: samples.Table, *place: int) -> str:
 
 def readings(rng: Random, lib: Library) -> Iterator[str]:
     """All readings of a table at some points; the cost at several tariffs."""
-    whole = cases.reading_table(rng)
+    whole = drawn(lib, cases.reading_table(rng))
     for _ in range(6):
         t = cases.sometimes_damaged(rng, whole)
         u, v = cases.point(rng, t.w, t.h)

@@ -1,4 +1,4 @@
-"""Every call of document 01, as a pure function of what the caller lends.
+"""Every call of documents 01 and 02, as a pure function of what the caller lends.
 
 A call returns an Outcome: the answer, ('ok', ...) or ('refused', number), and the contents of every lent buffer
 after the call, by name. Buffers that were lent are never changed in place. A box is (u0, v0, u1, v1) in quarters.
@@ -94,9 +94,10 @@ def _box_refused(w: int, h: int, box: Box) -> bool:
     return not (0 <= u0 < u1 <= QUARTERS_PER_CELL * w and 0 <= v0 < v1 <= QUARTERS_PER_CELL * h)
 
 
-# A lent tree output after a tree is written: 'tree output past the tree is untouched'.
-def _tree_written(tree_out: Sequence[int], tree: Sequence[int]) -> List[int]:
-    return list(tree) + list(tree_out[len(tree) :])
+# A lent output after a tree or a file is written: 'tree output past the tree is untouched', 'bytes past the file are
+# untouched'.
+def _written(out: Sequence[int], content: Sequence[int]) -> List[int]:
+    return list(content) + list(out[len(content) :])
 
 
 # Document 01, Calls: 'numbers ... output not of the exact length' 16, 'tree output shorter than the tree' 17.
@@ -120,7 +121,7 @@ def fresh(w: int, h: int, number: int, tree_out: Sequence[int], coefficients_out
     if cause is not None:
         return _after(refused(cause), **lent)
     level_0 = place_count(w, h, 0)
-    lent["tree_out"] = _tree_written(tree_out, [0])
+    lent["tree_out"] = _written(tree_out, [0])
     lent["coefficients_out"] = [number] * level_0 + [0] * (total_places(w, h) - level_0)
     return _after(("ok", 1), **lent)
 
@@ -149,7 +150,7 @@ def insert(
     cause = _outputs_refused(w, h, tree_after, tree_out, len(coefficients_out))
     if cause is not None:
         return _after(refused(cause), **lent)
-    lent["tree_out"] = _tree_written(tree_out, tree_after)
+    lent["tree_out"] = _written(tree_out, tree_after)
     lent["coefficients_out"] = carry(surface_of(w, h, tree), surface_of(w, h, tree_after), coefficients)
     return _after(("ok", len(tree_after)), **lent)
 
@@ -297,9 +298,23 @@ def read_file(file: Sequence[int], tree_out: Sequence[int], coefficients_out: Se
     cause = _outputs_refused(content.w, content.h, content.tree, tree_out, len(coefficients_out))
     if cause is not None:
         return _after(refused(cause), **lent)
-    lent["tree_out"] = _tree_written(tree_out, content.tree)
+    lent["tree_out"] = _written(tree_out, content.tree)
     lent["coefficients_out"] = content.coefficients
     return _after(("ok", len(content.tree), content.w, content.h), **lent)
+
+
+# Document 02, One: 'Add the writer for document 01's file', 'Tables are checked as elsewhere'; 1 to 5, then 18, 'file
+# output shorter than the file, judged last'. Answer ('ok', file length); lent tree, coefficients and file_out.
+def write_file(w: int, h: int, tree: Sequence[int], coefficients: Sequence[int], file_out: Sequence[int]) -> Outcome:
+    lent = {"tree": tree, "coefficients": coefficients, "file_out": file_out}
+    cause = judge_table(w, h, tree, coefficients)
+    if cause is not None:
+        return _after(refused(cause), **lent)
+    file = tablefile.write_file(w, h, tree, coefficients)
+    if len(file_out) < len(file):
+        return _after(refused(18), **lent)
+    lent["file_out"] = _written(file_out, file)
+    return _after(("ok", len(file)), **lent)
 
 
 # Document 01, Bench sheet: 'The corner program reads a table file from standard input and prints a header, ...'.

@@ -1,4 +1,4 @@
-"""Checks the exact-fraction evaluator against document 01: its bench sheet, its refusals, its files, its demands.
+"""Checks the exact-fraction evaluator against documents 01 and 02: bench sheet, refusals, files, demands.
 
 Run as: python3 tests/evaluator/check_bench.py
 """
@@ -171,6 +171,8 @@ def refusals(check: Check) -> None:
         cases.append((number, calls.exact(*table, -1, 999)))
         cases.append((number, calls.display(*table, -1, 999)))
         cases.append((number, calls.cost(*table, -1, 999, -1)))
+        # 18 is 'judged last': with an output that is too short too, and with one that no file is longer than.
+        cases += [(number, calls.write_file(*table, [8] * length)) for length in (0, 99, 32_365)]
         if number <= 2:
             cases.append((number, calls.activity(*table[:3], 4, [])))
             cases.append((number, calls.least_level(*table[:3], (1, 1, 1, 1))))
@@ -196,6 +198,7 @@ def refusals(check: Check) -> None:
     cases += [(16, calls.activity(1, 1, [0], 1, [5] * n)) for n in (0, 24, 26, 16)]
     cases += [(17, calls.insert(*s, box, 1, [9] * n, out)) for n in (0, 1, 12)]
     cases.append((17, calls.fresh(1, 1, 5, [], out)))
+    cases += [(18, calls.write_file(*s, [8] * n)) for n in (0, 1, 5, 12, 100)]
     for number, outcome in cases:
         check(outcome.answer == ("refused", number), "refusal %d, given %s" % (number, outcome.answer))
     refused_insert = calls.insert(*s, box, 1, [9] * 12, out)
@@ -258,6 +261,39 @@ def files(check: Check) -> None:
     check(tablefile.coefficient_bytes(-1) == b"\xff" * 5 and number(258) == b"\0\0\0\1\2", "coefficient bytes")
 
 
+# Document 02, One: 'The file's length is returned', 'bytes past the file are untouched', 18; files written out by hand.
+def saving(check: Check) -> None:
+    s = bench_s()
+    columns = ("fffffffc18", "0000000000", "00000003e8", "00000007d0")
+    file_s = "0100020101" + "02000100" + "100050" + "".join(columns) * 4 + "110000120000130000"
+    fine = inserted(s, (0, 0, 4, 4), 1)
+    columns = ("ffffff8300", "0000000000", "0000007d00", "000000fa00", "0000017700")
+    tree = "02000d" + "04040401" + "00" * 9
+    fine_s = "0100020101" + tree + "100000" + "11007d" + "".join(columns) * 5 + "120000130000"
+    # 700 watts are 2bc, or af00 in units of 1/64 watt; 16 and 10 functions are active, 80 and 50 bytes.
+    two = inserted(fresh_table(2, 1, 700), (0, 0, 4, 4), 1)
+    wide = "0100020201" + tree + "100050" + "00000002bc" * 16 + "110032" + "000000af00" * 10 + "120000130000"
+    # The limits of level 3 in five bytes, and -1; 4,489 functions are active, 22,445 bytes.
+    numbers = [32_000 * 64**3, -32_000 * 64**3, -1] + [0] * 4_486
+    whole = Table(8, 8, [3], [0] * 1_707 + numbers)
+    ends = "01f4000000" + "fe0c000000" + "ffffffffff" + "00" * 22_430
+    full = "0100020808" + "02000103" + "100000110000120000" + "1357ad" + ends
+    texts = [("S", s, file_s), ("S with a level 1 box", fine, fine_s), ("2 by 1", two, wide), ("tree 3", whole, full)]
+    check([len(text) // 2 for _, _, text in texts] == [101, 158, 163, 22_466], "lengths of files written out by hand")
+    for name, table, text in texts:
+        file, short = list(bytes.fromhex(text)), [8] * (len(text) // 2 - 1)
+        for more in (0, 1, 9):
+            outcome = calls.write_file(*table, [8] * (len(file) + more))
+            check(outcome.answer == ("ok", len(file)), "length of the file of %s, %d bytes more lent" % (name, more))
+            check(outcome.lent["file_out"] == file + [8] * more, "the file of %s, %d bytes more lent" % (name, more))
+        kept = {"tree": table.tree, "coefficients": table.coefficients, "file_out": short}
+        check(calls.write_file(*table, short) == (("refused", 18), kept), "a byte too short for the file of %s" % name)
+        first = next(place for place, limit in enumerate(table.surface().limits()) if limit is not None)
+        kept["coefficients"] = properties.with_number(table, first, 2**40).coefficients
+        over = calls.write_file(table.w, table.h, table.tree, kept["coefficients"], short)
+        check(over == (("refused", 4), kept), "4 and not 18 for the file of %s" % name)
+
+
 # Document 01, Bench sheet: what the corner program prints.
 def corners(check: Check) -> None:
     lines = ["u v watts", "0 0 0", "1 0 1000", "0 1 0", "1 1 1000"]
@@ -307,6 +343,7 @@ GROUPS = [
     ("corner program", corners),
     ("refusals", refusals),
     ("table files", files),
+    ("saving a table", saving),
     ("splines", properties.splines),
     ("region trees", properties.trees),
     ("selection rule", properties.selection),
@@ -315,8 +352,11 @@ GROUPS = [
     ("convexity", properties.convexity),
     ("linearity", properties.linearity),
     ("refinement", properties.refinement),
+    ("saving and loading", properties.saving),
+    ("saving what was loaded", properties.saving_again),
     ("misreadings on the bench sheet", bench_misreadings),
     ("misreadings on the properties", properties.misreadings),
+    ("misreadings of saving", properties.saving_misreadings),
 ]
 
 

@@ -1,4 +1,4 @@
-"""The table file of document 01: a writer for test files, and the judging of a file in byte order."""
+"""The table file of document 01: the file of a table, and the judging of a file in byte order."""
 from __future__ import annotations
 
 from typing import List, NamedTuple, Optional, Sequence, Tuple, Union

@@ -22,7 +22,7 @@ static const uint8_t flat[1] = {0}, split[5] = {4, 0, 0, 0, 0}, whole_1[1] = {1}
 static const uint8_t level_1[13] = {4, 4, 4, 1};
 
 static int64_t s[ONE], fine[ONE], many[KILN_PLACES], more[KILN_PLACES];
-static uint8_t tree[KILN_TREE_BYTES], bytes[KILN_PLACES];
+static uint8_t tree[KILN_TREE_BYTES], bytes[KILN_PLACES], out[KILN_FILE_BYTES];
 static uint8_t level;
 static size_t length, visited, cost;
 static int64_t numerator, figure;
@@ -32,6 +32,12 @@ static size_t ones(size_t n) {
   size_t sum = 0;
   for (size_t k = 0; k < n; k++) sum += bytes[k];
   return sum;
+}
+
+/* Whether the file output from here on holds what it was filled with. */
+static int nines(size_t from) {
+  while (from < sizeof out && out[from] == 9) from++;
+  return from == sizeof out;
 }
 
 /* "S is 1 by 1 with level 0 columns -1,000, 0, 1,000, 2,000 (i = -3 to 0), equal in all rows." */
@@ -143,7 +149,7 @@ static void trees(void) {
   HELD(kiln_fresh(1, 1, 0, NULL, 0, more, ONE, &length) == KILN_TREE_OUTPUT_SHORT);
 }
 
-/* "The table file": that of S, and the same cut short by a byte, and none. */
+/* "The table file": that of S read, and the same cut short by a byte, and none; and S written to it again. */
 static void file_of_s(void) {
   static const uint8_t heads[12] = {1, 0, 2, 1, 1, 2, 0, 1, 0, 16, 0, 80}, tail[9] = {17, 0, 0, 18, 0, 0, 19, 0, 0};
   uint8_t file[101];
@@ -157,6 +163,46 @@ static void file_of_s(void) {
   HELD(length == 1 && w == 1 && h == 1 && tree[0] == 0 && !memcmp(more, s, sizeof s));
   HELD(kiln_read_file(file, 100, tree, 1, more, ONE, &length, &w, &h) == KILN_FILE_ENDS);
   HELD(kiln_read_file(NULL, 0, NULL, 0, NULL, 0, &length, &w, &h) == KILN_FILE_ENDS);
+  memset(out, 9, sizeof out);
+  length = 7;
+  HELD(kiln_write_file(1, 1, flat, 1, s, ONE, out, 100, &length) == KILN_FILE_OUTPUT_SHORT);
+  HELD(kiln_write_file(1, 1, flat, 1, s, ONE, NULL, 0, &length) == KILN_FILE_OUTPUT_SHORT);
+  HELD(length == 7 && nines(0));
+  HELD(kiln_write_file(1, 1, flat, 1, s, ONE, out, 101, &length) == KILN_DONE);
+  HELD(length == 101 && !memcmp(out, file, 101) && nines(101));
+}
+
+/* "Each acceptable table has one file": that of S with level 1, 25 numbers after a tree of 13 bytes, read again; 18 is
+   "judged last"; no file is longer than KILN_FILE_BYTES. */
+static void files_written(void) {
+  static const uint8_t heads[8] = {1, 0, 2, 1, 1, 2, 0, 13}, levels[6] = {16, 0, 0, 17, 0, 125};
+  static const uint8_t lowest[5] = {255, 255, 255, 131, 0}, tail[6] = {18, 0, 0, 19, 0, 0};
+  static const uint8_t limits[10] = {1, 0xf4, 0, 0, 0, 0xfe, 0x0c, 0, 0, 0};
+  size_t w, h;
+  memset(out, 9, sizeof out);
+  HELD(kiln_write_file(1, 1, level_1, 13, fine, ONE, out, KILN_FILE_BYTES, &length) == KILN_DONE && length == 158);
+  HELD(!memcmp(out, heads, 8) && !memcmp(out + 8, level_1, 13) && !memcmp(out + 21, levels, 6));
+  HELD(!memcmp(out + 27, lowest, 5) && !memcmp(out + 152, tail, 6) && nines(158));
+  HELD(kiln_read_file(out, 158, tree, sizeof tree, more, ONE, &length, &w, &h) == KILN_DONE && w == 1 && h == 1);
+  HELD(length == 13 && !memcmp(tree, level_1, 13) && !memcmp(more, fine, sizeof fine));
+  length = 7;
+  memset(out, 9, sizeof out);
+  HELD(kiln_write_file(9, 1, level_1, 13, fine, ONE, out, 9, &length) == KILN_SIDE);
+  HELD(kiln_write_file(1, 1, level_1, 12, fine, ONE, out, 9, &length) == KILN_TREE);
+  HELD(kiln_write_file(1, 1, level_1, 13, fine, ONE - 1, out, 9, &length) == KILN_NUMBERS_LENGTH);
+  more[16] = 2048001, more[0] = 1;
+  HELD(kiln_write_file(1, 1, level_1, 13, more, ONE, out, 157, &length) == KILN_COEFFICIENT_LIMIT);
+  more[16] = 2048000;
+  HELD(kiln_write_file(1, 1, level_1, 13, more, ONE, out, 157, &length) == KILN_PASSIVE_NOT_ZERO);
+  more[0] = 0;
+  HELD(kiln_write_file(1, 1, level_1, 13, more, ONE, out, 157, &length) == KILN_FILE_OUTPUT_SHORT);
+  HELD(length == 7 && nines(0));
+  for (size_t k = 0; k < KILN_PLACES; k++) many[k] = k < 1707 ? 0 : -1;
+  many[1707] = INT64_C(8388608000), many[1708] = -many[1707];  /* the limits of level 3 */
+  HELD(kiln_write_file(8, 8, whole_3, 1, many, KILN_PLACES, out, 22465, &length) == KILN_FILE_OUTPUT_SHORT);
+  HELD(kiln_write_file(8, 8, whole_3, 1, many, KILN_PLACES, out, 22466, &length) == KILN_DONE);
+  HELD(length == 22466 && out[18] == 19 && out[19] == 0x57 && out[20] == 0xad && nines(22466));
+  HELD(!memcmp(out + 21, limits, 10) && out[31] == 255 && out[22465] == 255);
 }
 
 int main(void) {
@@ -168,6 +214,7 @@ int main(void) {
   costs();
   trees();
   file_of_s();
+  files_written();
   printf("calls from C: %d held, %d not\n", made - wrong, wrong);
   return wrong != 0;
 }

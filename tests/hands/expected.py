@@ -1,13 +1,14 @@
-"""Prints what examples/read_and_refine.c must print for a table file, found by the unrelated evaluator.
+"""Prints what examples/read_and_refine.c must print for a table file, found by the unrelated evaluator; with a second
+name what examples/save.c must print, and writes there what it must save, or nothing where it is refused.
 
-Run as: python3 tests/hands/expected.py FILE
+Run as: python3 tests/hands/expected.py FILE [SAVED]
 """
 from __future__ import annotations
 
 import sys
 from fractions import Fraction
 from pathlib import Path
-from typing import List, Sequence
+from typing import List, Sequence, Tuple, Union
 
 sys.dont_write_bytecode = True
 ROOT = Path(__file__).resolve().parents[2]
@@ -35,21 +36,52 @@ def shown(when: str, w: int, h: int, tree: Sequence[int], coefficients: Sequence
     return f"{when}: {six_places(watts)} watts, {cost} hundredths of a cent an hour"
 
 
-def lines(file: bytes) -> List[str]:
+def loaded(file: bytes) -> Union[tablefile.Content, int]:
+    """What a file holds, or the number where it or its reading is refused."""
     content = tablefile.judge(file)
     if isinstance(content, int):
-        return [f"refused {content}"]
+        return content
     cause = calls.judge_reading(*content, *POINT)
-    if cause is not None:
-        return [f"refused {cause}"]
-    before = shown("before", *content)
-    w, h, tree, coefficients = content
+    return content if cause is None else cause
+
+
+def refined(content: tablefile.Content) -> Union[tablefile.Content, int]:
+    """The table after the insertion, or the number where that is refused."""
+    w, h, _, coefficients = content
     inserted = calls.insert(*content, BOX, LEVEL, [0] * quadtree.GREATEST_TREE, [0] * len(coefficients))
     if inserted.answer[0] == "refused":
-        return [before, f"refused {inserted.answer[1]}"]
-    finer = inserted.lent["tree_out"][: inserted.answer[1]]
-    return [before, shown("after", w, h, finer, inserted.lent["coefficients_out"])]
+        return inserted.answer[1]
+    tree = inserted.lent["tree_out"][: inserted.answer[1]]
+    return tablefile.Content(w, h, tree, inserted.lent["coefficients_out"])
+
+
+def lines(file: bytes) -> List[str]:
+    content = loaded(file)
+    if isinstance(content, int):
+        return [f"refused {content}"]
+    before, finer = shown("before", *content), refined(content)
+    return [before, f"refused {finer}" if isinstance(finer, int) else shown("after", *finer)]
+
+
+def saved(file: bytes) -> Tuple[List[str], bytes]:
+    """The lines of examples/save.c, and the file that it saves, empty for none."""
+    content = loaded(file)
+    if isinstance(content, int):
+        return [f"refused {content}"], b""
+    before, finer = shown("loaded", *content), refined(content)
+    if isinstance(finer, int):
+        return [before, f"refused {finer}"], b""
+    out = calls.write_file(*finer, [0] * 32_365)
+    length = out.answer[1]
+    return [before, f"saved: {length} bytes", shown("loaded again", *finer)], bytes(out.lent["file_out"][:length])
+
+
+def main(name: str, to: str = "") -> None:
+    told, file = saved(Path(name).read_bytes()) if to else (lines(Path(name).read_bytes()), b"")
+    if file:
+        Path(to).write_bytes(file)
+    print("\n".join(told))
 
 
 if __name__ == "__main__":
-    print("\n".join(lines(Path(sys.argv[1]).read_bytes())))
+    main(*sys.argv[1:])

@@ -67,18 +67,31 @@ head -c 100 tables/kiln-refined-near-top-heat.table >"$room/cut.table"
 files=("$root"/tables/*.table "$room/cut.table")
 declare -A words=([6]="point off the sheet" [12]="file ends inside a head or body")
 declare -A seen=()
-for file in "${files[@]}"; do
-  python3 tests/hands/expected.py "$file" >"$room/expected"
-  number=$(sed -n 's/^refused //p' "$room/expected")
-  status=0
-  (cd / && "$examples/read_and_refine" "$file") >"$room/given" 2>"$room/error" || status=$?
-  { grep -v '^refused' "$room/expected" || true; } | diff - "$room/given" || fail "read_and_refine differs on $file"
+
+# Runs an example, which must print what a file has but for the refusal there, which main shows.
+example() {
+  local expected=$1 number status=0
+  shift
+  number=$(sed -n 's/^refused //p' "$expected")
+  (cd / && "$@") >"$room/given" 2>"$room/error" || status=$?
+  { grep -v '^refused' "$expected" || true; } | diff - "$room/given" || fail "$* differs"
   if [ -n "$number" ]; then
     seen[$number]=1
     echo "Error: refused $number: ${words[$number]}" | diff - "$room/error" || fail "main does not show refusal $number"
     [ "$status" -eq 1 ] || fail "main ends with $status where it is refused"
   else
-    [ "$status" -eq 0 ] || fail "read_and_refine ends with $status on $file" "$room/error"
+    [ "$status" -eq 0 ] || fail "$* ends with $status" "$room/error"
+  fi
+}
+for file in "${files[@]}"; do
+  python3 tests/hands/expected.py "$file" >"$room/expected"
+  example "$room/expected" "$examples/read_and_refine" "$file"
+  rm -f "$room/saved.table" "$room/given.table"
+  python3 tests/hands/expected.py "$file" "$room/saved.table" >"$room/expected"
+  example "$room/expected" "$examples/save" "$file" "$room/given.table"
+  # Where the example is refused, nothing may be saved.
+  if [ -e "$room/saved.table" ] || [ -e "$room/given.table" ]; then
+    cmp "$room/saved.table" "$room/given.table" || fail "save saves another file for $file"
   fi
 done
 [ ${#seen[@]} -eq ${#words[@]} ] || fail "the examples were not refused with each of ${!words[*]}"
@@ -122,4 +135,4 @@ KILN_LIB_DIR=../lib copied build --offline --locked --examples || fail "a folder
 missing_is_told "after one with it"
 
 echo "hands: Rust crate: $tests tests and $doc_tests doc tests passed, $layout, $lints;" \
-  "example as expected on ${#files[@]} files; $around; archive found where KILN_LIB_DIR says"
+  "examples as expected on ${#files[@]} files; $around; archive found where KILN_LIB_DIR says"

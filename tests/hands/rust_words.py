@@ -28,8 +28,8 @@ def refusal_words() -> Dict[int, str]:
     """The words of every number that a byte holds."""
     source = (CRATE / "src/refusal.rs").read_text(encoding="utf-8")
     found = [(int(number), words) for number, words in REFUSAL.findall(source)]
-    # Document 01's table has the numbers 1 to 17; later ones go on from there.
-    if len(found) < 17 or [number for number, _ in found] != list(range(1, len(found) + 1)):
+    # Documents 01 and 02 have the numbers 1 to 18; later ones go on from there.
+    if len(found) < 18 or [number for number, _ in found] != list(range(1, len(found) + 1)):
         raise ValueError("the Rust crate's refusals are not numbered from 1 on")
     other = (OTHER.findall(source) or [NO_WORDS])[0].replace(" of the crate", "")
     return {**{number: other for number in range(256)}, 0: "no refusal", **dict(found)}

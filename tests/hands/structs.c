@@ -112,6 +112,22 @@ static void s_is_read(struct kiln_table *s) {
   HELD(kiln_table_display(s, at(0, 129), &figure) == KILN_POINT && figure == 1000);
 }
 
+/* "The file's length is returned"; "file output shorter than the file, judged last; bytes past the file are
+   untouched". */
+static void s_is_written(const struct kiln_table *s) {
+  uint8_t file[101], out[104];
+  struct kiln_table other = *s;
+  size_t length = 77;
+  file_of_s(file);
+  memset(out, 77, sizeof out);
+  other.numbers_len = ONE - 1;
+  HELD(kiln_table_write_file(&other, out, 100, &length) == KILN_NUMBERS_LENGTH);
+  HELD(kiln_table_write_file(s, out, 100, &length) == KILN_FILE_OUTPUT_SHORT);
+  HELD(length == 77 && out[0] == 77 && !memcmp(out, out + 1, sizeof out - 1));
+  HELD(kiln_table_write_file(s, out, sizeof out, &length) == KILN_DONE && length == 101);
+  HELD(!memcmp(out, file, 101) && out[101] == 77 && out[102] == 77 && out[103] == 77);
+}
+
 /* "S, level 1 box 0,0 to 4,4: tree 4 4 4 1 and nine 0; 25 active, columns ..."; "least level 1, 4 nodes". */
 static void box_is_inserted(const struct kiln_table *s) {
   static const int64_t fine_columns[5] = {-32000, 0, 32000, 64000, 96000};
@@ -263,6 +279,19 @@ static void regions_beside_plain(const struct kiln_table *table) {
   HELD(same);
 }
 
+/* The file of a table, and the table that it loads in the room that the table is not in. */
+static void file_beside_plain(const struct kiln_table *table) {
+  const struct kiln_table t = *table;
+  struct kiln_table again;
+  size_t length[2] = {7, 7};
+  HELD(kiln_table_write_file(&t, bytes, sizeof bytes, &length[0]) == KILN_DONE);
+  HELD(kiln_write_file(PLAIN(t), plain_bytes, sizeof plain_bytes, &length[1]) == KILN_DONE);
+  HELD(length[0] == length[1] && !memcmp(bytes, plain_bytes, length[0]));
+  HELD(kiln_table_read_file(bytes, length[0], room_b, &again) == KILN_DONE && plain_is(&again, t.tree_len));
+  HELD(kiln_table_write_file(&t, bytes, length[0] - 1, &length[0]) == KILN_FILE_OUTPUT_SHORT);
+  HELD(length[0] == length[1]);
+}
+
 /* A sheet of 3 by 2 whose coefficients differ, refined twice: each table that is written, and each call on it. */
 static void beside_plain(void) {
   uint8_t file[101];
@@ -290,12 +319,14 @@ static void beside_plain(void) {
   HELD(kiln_table_judge(&t) == kiln_table_cause(PLAIN(t)));
   readings_beside_plain(&t);
   regions_beside_plain(&t);
+  file_beside_plain(&t);
 }
 
 int main(void) {
   struct kiln_table s;
   rooms_filled();
   s_is_read(&s);
+  s_is_written(&s);
   box_is_inserted(&s);
   two_by_one_from_file();
   two_by_one();

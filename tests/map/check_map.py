@@ -20,9 +20,11 @@ LINES = {
     "Calls": ("definition", "promise", "theorem", "test", "must-fail"),
     "Refusal numbers": ("definition", "promise", "theorem", "test", "must-fail"),
     "Words of document 01": ("definition", "theorem"),
+    "Words of document 02": ("definition", "theorem", "test", "must-fail"),
     "Misreadings and wrong programs": ("must-fail", "refused by"),
+    "Wrong programs of document 02's requests": ("must-fail", "refused by"),
 }
-REFUSALS = range(1, 18)
+REFUSALS = range(1, 19)
 
 
 def declares(text: str, name: str, kind: str) -> bool:
@@ -87,9 +89,14 @@ def incomplete(text: str) -> List[str]:
                      if f"#{name}`" not in promised]
 
 
+def pages(names: str) -> str:
+    """The pages of the map with such names, one after the other."""
+    return "".join(one.read_text(encoding="utf-8") for one in sorted((ROOT / "docs").glob(names)))
+
+
 def main() -> int:
-    text = "".join(one.read_text(encoding="utf-8") for one in sorted((ROOT / "docs").glob("MAP*.md")))
-    misreadings = (ROOT / "docs/MAP-MISREADINGS.md").read_text(encoding="utf-8")
+    text = pages("MAP*.md")
+    misreadings = pages("MAP-MISREADINGS*.md")
     faults = missing(text) + unlisted(misreadings) + incomplete(text)
     for fault in faults:
         print(fault)

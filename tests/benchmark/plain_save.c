@@ -1,0 +1,65 @@
+/* File writing in plain C: the table is checked, the file's length is found from the active counts, then the fields are
+   written one after another. */
+#include "plain_inside.h"
+
+/* Writes a field's head, and returns the position after it. */
+static inline uint8_t *put_head(uint8_t *to, size_t tag, size_t n) {
+  to[0] = (uint8_t)tag;
+  to[1] = (uint8_t)(n >> 8);
+  to[2] = (uint8_t)n;
+  return to + HEAD;
+}
+
+/* Writes five bytes, two's complement, high byte first, and returns the position after them. */
+static inline uint8_t *put_number(uint8_t *to, int64_t number) {
+  uint64_t n = (uint64_t)number;
+  to[0] = (uint8_t)(n >> 32);
+  to[1] = (uint8_t)(n >> 24);
+  to[2] = (uint8_t)(n >> 16);
+  to[3] = (uint8_t)(n >> 8);
+  to[4] = (uint8_t)n;
+  return to + NUMBER_BYTES;
+}
+
+/* Writes the numbers of a row whose functions are marked, and returns the position after them. */
+static inline uint8_t *save_row(const int64_t *row, struct marks m, size_t e, size_t n, uint8_t *to) {
+  for (size_t a = 0; a < n; a += 2, m = next_two(m, e)) {
+    if (m.even & 1) to = put_number(to, row[a]);
+    if (a + 1 < n && m.odd & 1) to = put_number(to, row[a + 1]);
+  }
+  return to;
+}
+
+/* Writes a level's active coefficients in slice order, and returns the position after them. */
+static uint8_t *save_level(const int64_t *numbers, const struct regions *regions, size_t w, size_t h, size_t level,
+                           uint8_t *to) {
+  size_t n = functions(w, level), m = functions(h, level);
+  for (size_t b = 0; b < m; b++, numbers += n)
+    to = save_row(numbers, active_row(regions, w, h, level, b), eighths(level), n, to);
+  return to;
+}
+
+uint8_t plain_write_file(size_t w, size_t h, const uint8_t *tree, size_t tree_len, const int64_t *numbers,
+                         size_t numbers_len, uint8_t *file_out, size_t file_out_len, size_t *length) {
+  struct regions regions;
+  uint8_t cause = check(w, h, tree, tree_len, numbers, numbers_len, &regions), *to = file_out;
+  if (cause) return cause;
+  size_t body[LEVELS], whole = HEAD + SIDES_BYTES + HEAD + tree_len;
+  for (size_t level = 0; level < LEVELS; level++) {
+    body[level] = NUMBER_BYTES * active_count(&regions, w, h, level);
+    whole += HEAD + body[level];
+  }
+  if (file_out_len < whole) return FILE_OUTPUT_SHORT;
+  to = put_head(to, TAG_SIDES, SIDES_BYTES);
+  *to++ = (uint8_t)w;
+  *to++ = (uint8_t)h;
+  to = put_head(to, TAG_TREE, tree_len);
+  memcpy(to, tree, tree_len);
+  to += tree_len;
+  for (size_t level = 0; level < LEVELS; level++) {
+    to = put_head(to, TAG_LEVEL_0 + level, body[level]);
+    if (body[level]) to = save_level(numbers + start(w, h, level), &regions, w, h, level, to);
+  }
+  *length = whole;
+  return 0;
+}
