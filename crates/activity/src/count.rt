@@ -5,6 +5,7 @@ ghost use Rattle.finite.specs.Range.{count};
 ghost use Rattle.surface.specs.Support.{activeCount};
 ghost use Rattle.rows.specs.Rows.{levelsOf, Nested};
 ghost use Rattle.activity.specs.Marks.{marked, spread, Front};
+ghost use Rattle.activity.specs.Counts.{Counted};
 
 // A word with n places set, each e after the one before, from the lowest on.
 fn places(n: usize, e: usize) -> u64
@@ -51,4 +52,17 @@ pub fn active_count(rows: &[u32; 96], w: usize, h: usize, level: usize) -> usize
         b += 1;
     }
     found
+}
+
+// How many functions of each level are active.
+pub fn active_counts(rows: &[u32; 96], w: usize, h: usize) -> [usize; 4]
+    requires { ⌜ (w ≤ 8) × (h ≤ 8) × Nested (now rows) ⌝ }
+    ensures { λ r. ⌜ Counted w h (levelsOf (now (rows .entry))) r ⌝ }
+{
+    [
+        active_count(rows, w, h, 0),
+        active_count(rows, w, h, 1),
+        active_count(rows, w, h, 2),
+        active_count(rows, w, h, 3),
+    ]
 }

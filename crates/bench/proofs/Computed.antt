@@ -16,12 +16,12 @@ use Rattle.surface.specs.Calls.{setOutcome, activityBytes, activityCause, activ
 use Rattle.surface.specs.Calls.{readingCause, exactOutcome, displayOutcome, costOutcome}
 use Rattle.surface.specs.Fields.{field, allWithin}
 use Rattle.surface.specs.TableFile.{sidesField, treeField, levelField, levelFields, fileContents, fileOutcome}
-use Rattle.surface.specs.TableFile.{levelBody, fileOf}
+use Rattle.surface.specs.TableFile.{countsAgree, countsField, levelBody, countsBody, fileWith}
 use Rattle.surface.specs.Saving.{saveCause, saveOutcome}
 use Rattle.bench.specs.Bench.{Inserted, Visited, TwoByOne}
 use Rattle.bench.specs.Cases.{InsideCell, Children, Shortest, Longest, EastBox, LimitFirst, NewTree, Activity}
 use Rattle.bench.specs.Cases.{Sets, Fresh, LevelZero, SetsFine, Declined, LowestGiven, Costs, Files}
-use Rattle.bench.specs.Cases.{SavedFiles, Heads, ContentsFirst}
+use Rattle.bench.specs.Cases.{CountedFiles, SavedFiles, Heads, ContentsFirst}
 
 -- ---- of the bench sheet
 
@@ -120,21 +120,28 @@ pub costs : Costs
 costs = (refl, refl, refl)
 
 pub files : Files
-unfolding fileOutcome fileContents sidesField treeField levelField levelFields field activeCount activeInRow
+unfolding fileOutcome fileContents sidesField treeField countsField levelField levelFields field activeCount activeInRow
     activeBefore allWithin total count every leastUnder least eighths levels levelAt parse wellFormed start tableFrom
     rowsFrom
 files = (refl, refl, refl, refl, refl, refl)
 
+pub counted-files : CountedFiles
+unfolding fileOutcome fileContents sidesField treeField countsField countsAgree levelField levelFields field activeCount
+    activeInRow activeBefore allWithin total count every leastUnder least eighths levels levelAt parse wellFormed start
+    tableFrom rowsFrom
+counted-files = (refl, refl, refl, refl, refl, refl, refl, refl, refl, refl, refl, refl)
+
 pub saved-files : SavedFiles
-unfolding saveOutcome saveCause fileOf levelBody joined tableCause regionCause withinLimits passiveZero every leastUnder
-    least eighths levels levelAt parse wellFormed start coefficients
+unfolding saveOutcome saveCause fileWith countsBody levelBody joined activeCount activeInRow total count tableCause
+    regionCause withinLimits passiveZero every leastUnder least eighths levels levelAt parse wellFormed start
+    coefficients
 saved-files = (refl, refl, refl, refl, refl)
 
 pub heads : Heads
-unfolding fileOutcome fileContents sidesField treeField levelField levelFields field parse wellFormed
+unfolding fileOutcome fileContents sidesField treeField countsField levelField levelFields field parse wellFormed
 heads = (refl, refl, refl, refl, refl, refl, refl, refl)
 
 pub contents-first : ContentsFirst
-unfolding fileOutcome fileContents sidesField treeField levelField levelFields field activeCount activeInRow allWithin
-    total count every leastUnder least eighths levels levelAt parse wellFormed
+unfolding fileOutcome fileContents sidesField treeField countsField levelField levelFields field activeCount activeInRow
+    allWithin total count every leastUnder least eighths levels levelAt parse wellFormed
 contents-first = (refl, refl)

@@ -158,20 +158,41 @@ WholeWattsPriced =
 
 -- ---- the table file
 
--- Tag 1 with W and H, tag 2 with the tree, tag 16 with S's sixteen numbers of five bytes, tags 17 to 19 empty.
-abbrev pub fileS : List ℕ
-fileS =
-    (1 ∷ 0 ∷ 2 ∷ 1 ∷ 1 ∷ 2 ∷ 0 ∷ 1 ∷ 0 ∷ 16 ∷ 0 ∷ 80 ∷ [])
+-- Tag 1 with W and H and tag 2 with the tree, of S and of the 2 by 1 table of 700 watts: W comes before H.
+abbrev pub frontS : List ℕ
+frontS = 1 ∷ 0 ∷ 2 ∷ 1 ∷ 1 ∷ 2 ∷ 0 ∷ 1 ∷ 0 ∷ []
+
+abbrev pub front700 : List ℕ
+front700 = 1 ∷ 0 ∷ 2 ∷ 2 ∷ 1 ∷ 2 ∷ 0 ∷ 1 ∷ 0 ∷ []
+
+-- Tag 16 with S's sixteen numbers of five bytes, or with twenty of 700; tags 17 to 19 empty.
+abbrev pub levelsS : List ℕ
+levelsS =
+    (16 ∷ 0 ∷ 80 ∷ [])
     ++ (rows 4
     ((255 ∷ 255 ∷ 255 ∷ 252 ∷ 24 ∷ 0 ∷ 0 ∷ 0 ∷ 0 ∷ 0 ∷ [])
     ++ (0 ∷ 0 ∷ 0 ∷ 3 ∷ 232 ∷ 0 ∷ 0 ∷ 0 ∷ 7 ∷ 208 ∷ []))
     ++ (17 ∷ 0 ∷ 0 ∷ 18 ∷ 0 ∷ 0 ∷ 19 ∷ 0 ∷ 0 ∷ []))
 
--- The 2 by 1 table of 700 watts: W comes before H.
-abbrev pub file700 : List ℕ
-file700 =
-    (1 ∷ 0 ∷ 2 ∷ 2 ∷ 1 ∷ 2 ∷ 0 ∷ 1 ∷ 0 ∷ 16 ∷ 0 ∷ 100 ∷ [])
+abbrev pub levels700 : List ℕ
+levels700 =
+    (16 ∷ 0 ∷ 100 ∷ [])
     ++ (rows 20 (0 ∷ 0 ∷ 0 ∷ 2 ∷ 188 ∷ []) ++ (17 ∷ 0 ∷ 0 ∷ 18 ∷ 0 ∷ 0 ∷ 19 ∷ 0 ∷ 0 ∷ []))
+
+-- Files lacking the counts, as document 01 has them.
+abbrev pub fileS : List ℕ
+fileS = frontS ++ levelsS
+
+abbrev pub file700 : List ℕ
+file700 = front700 ++ levels700
+
+-- Document 02, "Counts in the file": tag 3 with these numbers of active functions, all below 256.
+abbrev pub counts : ℕ → ℕ → ℕ → ℕ → List ℕ
+counts n0 n1 n2 n3 = 3 ∷ 0 ∷ 8 ∷ 0 ∷ n0 ∷ 0 ∷ n1 ∷ 0 ∷ n2 ∷ 0 ∷ n3 ∷ []
+
+-- The file of S, and the same with other bytes for its counts.
+abbrev pub countedS : List ℕ → List ℕ
+countedS field = frontS ++ (field ++ levelsS)
 
 abbrev pub Files : Type 0
 Files =
@@ -186,24 +207,46 @@ Files =
     × (fileOutcome fileS [] (replicate 211 (pos 7)) ≡ record
     { result = refused 17; tree = []; numbers = replicate 211 (pos 7) })
 
+-- "Files lacking it are still loaded"; with the counts S's file loads the same. A count that differs is 20, be it of
+-- level 0 or 3 or with its bytes exchanged, "with the contents of tag 3": after its whole body, and before the cut head
+-- of tag 16. Where neither tag 3 nor tag 16 stands it is 13, so also for a second tag 3; another length is 14.
+abbrev pub CountedFiles : Type 0
+CountedFiles =
+    (fileOutcome (countedS (counts 16 0 0 0)) (9 ∷ 8 ∷ []) (replicate 211 (pos 7))
+    ≡ record { result = gives (record { treeLength = 1; W = 1; H = 1 }); tree = 0 ∷ 8 ∷ []; numbers = S })
+    × (fileOutcome (countedS (counts 17 0 0 0)) (9 ∷ []) (pos 7 ∷ []) ≡ record
+    { result = refused 20; tree = 9 ∷ []; numbers = pos 7 ∷ [] })
+    × (fileOutcome (countedS (counts 16 0 0 1)) [] [] .result ≡ refused 20)
+    × (fileOutcome (countedS (counts 0 0 0 16)) [] [] .result ≡ refused 20)
+    × (fileOutcome (countedS (3 ∷ 0 ∷ 8 ∷ 16 ∷ 0 ∷ 0 ∷ 0 ∷ 0 ∷ 0 ∷ 0 ∷ 0 ∷ [])) [] [] .result ≡ refused 20)
+    × (fileOutcome (frontS ++ (counts 17 0 0 0 ++ (16 ∷ []))) [] [] .result ≡ refused 20)
+    × (fileOutcome (frontS ++ (counts 16 0 0 0 ++ (16 ∷ []))) [] [] .result ≡ refused 12)
+    × (fileOutcome (frontS ++ (3 ∷ 0 ∷ 8 ∷ 0 ∷ 17 ∷ 0 ∷ 0 ∷ 0 ∷ 0 ∷ 0 ∷ [])) [] [] .result ≡ refused 12)
+    × (fileOutcome (frontS ++ (3 ∷ 0 ∷ [])) [] [] .result ≡ refused 12)
+    × (fileOutcome (frontS ++ (counts 16 0 0 0 ++ counts 16 0 0 0)) [] [] .result ≡ refused 13)
+    × (fileOutcome (frontS ++ (4 ∷ 0 ∷ 8 ∷ [])) [] [] .result ≡ refused 13)
+    × (fileOutcome (frontS ++ (3 ∷ 0 ∷ 7 ∷ [])) [] [] .result ≡ refused 14)
+
 -- The file of S with level 1 on the whole sheet: no number of level 0, five rows of -32,000 to 96,000 of level 1.
 abbrev pub fileRefined : List ℕ
 fileRefined =
     (1 ∷ 0 ∷ 2 ∷ 1 ∷ 1 ∷ 2 ∷ 0 ∷ 13 ∷ [])
-    ++ (refined ++ ((16 ∷ 0 ∷ 0 ∷ 17 ∷ 0 ∷ 125 ∷ [])
+    ++ (refined ++ (counts 0 25 0 0 ++ ((16 ∷ 0 ∷ 0 ∷ 17 ∷ 0 ∷ 125 ∷ [])
     ++ (rows 5
     (255 ∷ 255 ∷ 255 ∷ 131 ∷ 0 ∷ 0 ∷ 0 ∷ 0 ∷ 0 ∷ 0 ∷ 0 ∷ 0 ∷ 0 ∷ 125 ∷ 0 ∷ 0 ∷ 0 ∷ 0 ∷ 250 ∷ 0 ∷ 0 ∷ 0 ∷ 1 ∷ 119 ∷ 0
     ∷ [])
-    ++ (18 ∷ 0 ∷ 0 ∷ 19 ∷ 0 ∷ 0 ∷ []))))
+    ++ (18 ∷ 0 ∷ 0 ∷ 19 ∷ 0 ∷ 0 ∷ [])))))
 
 -- Document 02, "Saving a table": "The file's length is returned"; "bytes past the file are untouched"; 18 for an output
--- that is one byte shorter, "judged last": 4 comes before it.
+-- that is one byte shorter, "judged last": 4 comes before it. "Counts in the file": "The writer always puts it".
 abbrev pub SavedFiles : Type 0
 SavedFiles =
-    (saveOutcome 1 1 flat S (replicate 103 7) ≡ record { result = gives 101; after = fileS ++ (7 ∷ 7 ∷ []) })
-    × (saveOutcome 2 1 flat flat700 (replicate 121 7) ≡ record { result = gives 121; after = file700 })
-    × (saveOutcome 1 1 refined carriedS (replicate 158 7) ≡ record { result = gives 158; after = fileRefined })
-    × (saveOutcome 1 1 flat S (replicate 100 7) ≡ record { result = refused 18; after = replicate 100 7 })
+    (saveOutcome 1 1 flat S (replicate 114 7)
+    ≡ record { result = gives 112; after = countedS (counts 16 0 0 0) ++ (7 ∷ 7 ∷ []) })
+    × (saveOutcome 2 1 flat flat700 (replicate 132 7)
+    ≡ record { result = gives 132; after = front700 ++ (counts 20 0 0 0 ++ levels700) })
+    × (saveOutcome 1 1 refined carriedS (replicate 169 7) ≡ record { result = gives 169; after = fileRefined })
+    × (saveOutcome 1 1 flat S (replicate 111 7) ≡ record { result = refused 18; after = replicate 111 7 })
     × (saveOutcome 1 1 flat (pos 32001 ∷ zeros 210) (7 ∷ []) ≡ record { result = refused 4; after = 7 ∷ [] })
 
 -- "whole head, tag, length, whole body, contents"

@@ -72,4 +72,4 @@ bench-lines =
 
 pub bench-text : BenchText
 unfolding cornerText tableText wholeWatts line decimal widthWithin
-bench-text = ap textOf (saved-loads 1 1 flat S S-acceptable .0) ∙ ap (λ l. header ++ l) bench-lines
+bench-text counts = ap textOf (saved-loads counts 1 1 flat S S-acceptable .0) ∙ ap (λ l. header ++ l) bench-lines

@@ -1,14 +1,15 @@
 -- What the acceptance of a part of a file says, and how a field that stands is written.
-use mathlib.Core.Path.{_≡_, refl, sym, ap, ap₂, _∙_}
+use mathlib.Core.Path.{_≡_, refl, sym, ap, ap₂, _∙_, subst}
 use mathlib.Core.Bool.{Bool, true, not, _&&_}
 use mathlib.Core.List.{List, [], _∷_, _++_}
-use Prim.Native.Nat.{ℕ, zero, suc, _+_, _≤_, _<_}
+use Prim.Native.Nat.{ℕ, zero, suc, _+_, _*_, _/_, _%_, _≤_, _<_}
+use native.Mathlib.Nat.{mul-comm, mod-lt, div-add-mod', div-lt-iff-lt-mul}
 use native.Mathlib.Decide.{decLt}
 use native.Mathlib.Omega.{arith}
 use lib.Dec.{leb, ltb, eqb}
 use borrow.Author.Tests.{leb-true, ltb-false, eqb-true, le-leb, le-ltb, eq-eqb}
 use lib.ListN.{length, getD, take, drop, length-take, length-drop, take-append-drop, List·getD-eq-default}
-use lib.Seq.{length-take-le, getD-drop, getD-take, drop-drop}
+use lib.Seq.{length-take-le, getD-drop, getD-take, drop-drop, ext-getD}
 use Rattle.finite.proofs.Tests.{both}
 use Rattle.surface.specs.Table.{cause, _orElse_}
 use Rattle.surface.specs.Fields.{Judged, declined, contains, unless, Part, holds, inPart, lengthAt, field, checked}
@@ -124,6 +125,16 @@ body-bytes s h = take-bytes (lengthAt s) (drop 3 s) (drop-bytes 3 s h)
 
 pub rest-bytes : (s : List ℕ) → Bytes s → Bytes (restOf s)
 rest-bytes s h = drop-bytes (3 + lengthAt s) s h
+
+-- lists of n groups of k elements are the same if each group is
+pub groups-same : (k n : ℕ) (b c : List ℕ) → 0 < k → length b ≡ k * n → length c ≡ k * n
+    → ((i r : ℕ) → i < n → r < k → getD b (k * i + r) 0 ≡ getD c (k * i + r) 0) → b ≡ c
+groups-same k n b c h eb ec same =
+    ext-getD 0 b c (eb ∙ sym ec) λ j l.
+    let split : k * (j / k) + j % k ≡ j = ap (λ x. x + j % k) (mul-comm k (j / k)) ∙ div-add-mod' j k in
+    let inside : j < n * k = subst (λ x. j < x) (eb ∙ mul-comm k n) l in
+    subst (λ j. getD b j 0 ≡ getD c j 0) split
+    (same (j / k) (j % k) (div-lt-iff-lt-mul {k = k} {x = j} {y = n} h .1 inside) (mod-lt j h))
 
 -- ---- a field is written one way
 

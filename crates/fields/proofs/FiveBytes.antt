@@ -1,16 +1,15 @@
 -- Numbers of five bytes: each number has one spelling, so the numbers of a body determine its bytes.
-use mathlib.Core.Path.{_≡_, sym, ap, _∙_, subst}
+use mathlib.Core.Path.{_≡_, sym, ap, _∙_}
 use mathlib.Core.Bool.{Bool, true, false, cond}
 use mathlib.Core.List.{List}
-use Prim.Native.Nat.{ℕ, zero, suc, _+_, _-_, _*_, _/_, _%_, _^_, _<_}
-use native.Mathlib.Nat.{add-zero, mod-lt, div-add-mod'}
+use Prim.Native.Nat.{ℕ, zero, suc, _+_, _-_, _*_, _^_, _<_}
+use native.Mathlib.Nat.{add-zero}
 use native.Mathlib.Omega.{arith}
 use lib.IntN.{pos, negsuc}
 use lib.Dec.{ltb}
 use lib.ListN.{length, getD}
-use lib.Seq.{ext-getD}
 use Rattle.surface.specs.Fields.{unsignedAt, twosComplement, numberAt, Bytes, byteOf}
-use Rattle.fields.proofs.FieldLaws.{byte}
+use Rattle.fields.proofs.FieldLaws.{byte, groups-same}
 
 -- a number below 2^40 is determined by its two's complement
 twos-complement-inj : (m n : ℕ) → m < 2 ^ 40 → n < 2 ^ 40 → twosComplement m ≡ twosComplement n → m ≡ n
@@ -58,10 +57,4 @@ module _ (b c : List ℕ) (hb : Bytes b) (hc : Bytes c) where
   -- bodies of n numbers each, number by number the same
   pub numbers-determine : (n : ℕ) → length b ≡ 5 * n → length c ≡ 5 * n
       → ((k : ℕ) → k < n → numberAt b k ≡ numberAt c k) → b ≡ c
-  numbers-determine n eb ec h = ext-getD 0 b c (eb ∙ sym ec) same
-    where
-      same : (i : ℕ) → i < length b → getD b i 0 ≡ getD c i 0
-      same i l =
-          let at : 5 * (i / 5) + i % 5 ≡ i = omega (arith, div-add-mod' i 5) in
-          subst (λ j. getD b j 0 ≡ getD c j 0) at
-          (same-bytes (i / 5) (h (i / 5) (omega (arith, div-add-mod' i 5))) (i % 5) (mod-lt i (omega arith)))
+  numbers-determine n eb ec h = groups-same 5 n b c (omega arith) eb ec (λ k r l. same-bytes k (h k l) r)

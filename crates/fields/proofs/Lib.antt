@@ -4,3 +4,4 @@ pub mod NumberLaws
 pub mod PutLaws
 pub mod FiveBytes
 pub mod Written
+pub mod TwoBytes

@@ -13,7 +13,7 @@ use lib.ListN.{length, getD, take, drop, length-append, List·getD-append}
 use lib.Seq.{getD-append-add, take-at, drop-at, drop-drop}
 use Rattle.finite.specs.Range.{joined}
 use Rattle.surface.specs.Fields.{unless, holds, lengthAt, field, checked, unsignedAt, twosComplement, numberAt}
-use Rattle.surface.specs.Fields.{Bytes, byteOf, fieldBytes, complement, numberBytes}
+use Rattle.surface.specs.Fields.{Bytes, byteOf, twoBytes, fieldBytes, complement, numberBytes}
 use Rattle.surface.proofs.Causes.{none-cause}
 use Rattle.fields.proofs.FieldLaws.{stands-field}
 
@@ -47,6 +47,13 @@ module _ (f : ℕ → List ℕ) where
   joined-bytes zero h = nil-bytes
   joined-bytes (suc n) h =
       append-bytes (joined n f) (f n) (joined-bytes n (λ k l. h k (le-step l))) (h n (lt-suc-self n))
+
+-- ---- two bytes
+
+pub two-bytes : (n : ℕ) → Bytes (twoBytes n)
+two-bytes n zero l = byte-of 1 n
+two-bytes n (suc zero) l = byte-of 0 n
+two-bytes n (suc (suc i)) l = absurd (omega arith)
 
 -- ---- fields
 

@@ -6,7 +6,7 @@ ghost use mathlib.Core.Bool.{not};
 ghost use mathlib.Core.List.{[], _∷_};
 ghost use Prim.Native.Nat.{_+_, _*_, _%_, _≤_, _<_};
 ghost use lib.ListN.{length, getD, drop};
-ghost use Rattle.surface.specs.Fields.{lengthAt, field, byteOf};
+ghost use Rattle.surface.specs.Fields.{lengthAt, field, twoBytes};
 ghost use Rattle.fields.specs.Positions.{between, bodyAt, partAt, ends};
 ghost use Rattle.fields.specs.Put.{Put};
 
@@ -26,7 +26,7 @@ fn wide(x: u8) -> usize
 }
 
 // Two bytes as a number, high byte first.
-fn two_bytes(s: &[u8], at: usize) -> usize
+pub fn two_bytes(s: &[u8], at: usize) -> usize
     requires { ⌜ at + 2 ≤ length (now s) ⌝ }
     ensures { λ r. ⌜ (r ≡ getD (now (s .entry)) at 0 * 256 + getD (now (s .entry)) (at + 1) 0) × (r < 65536) ⌝ }
 {
@@ -100,12 +100,20 @@ fn put_low(n: usize, out: &mut [u8], at: usize) -> usize
     put_byte((n % 256) as u8, out, at)
 }
 
+// Puts a number of two bytes, high byte first.
+pub fn put_two(n: usize, out: &mut [u8], at: usize) -> usize
+    requires { ⌜ at + 2 ≤ length (now out) ⌝ }
+    ensures { λ r. ⌜ Put (twoBytes n) at (now (out .entry)) r (now (out .exit)) ⌝ }
+{
+    let low = put_low(n >> 8, out, at);
+    put_low(n, out, low)
+}
+
 // Puts the head of a field with a body of n bytes.
 pub fn put_head(tag: u8, n: usize, out: &mut [u8], at: usize) -> usize
     requires { ⌜ at + 3 ≤ length (now out) ⌝ }
-    ensures { λ r. ⌜ Put (tag ∷ byteOf 1 n ∷ byteOf 0 n ∷ []) at (now (out .entry)) r (now (out .exit)) ⌝ }
+    ensures { λ r. ⌜ Put (tag ∷ twoBytes n) at (now (out .entry)) r (now (out .exit)) ⌝ }
 {
-    let high = put_byte(tag, out, at);
-    let low = put_low(n >> 8, out, high);
-    put_low(n, out, low)
+    let length = put_byte(tag, out, at);
+    put_two(n, out, length)
 }

@@ -36,6 +36,16 @@ pub pick : (b : Bool) (P : Bool → Type 0) → (b ≡ true → P true) → (b �
 pick true P t f = t refl
 pick false P t f = f refl
 
+-- ---- what holds below a number
+
+-- and at it, holds below the next
+pub below-more : (P : ℕ → Type 0) (k : ℕ) → ((i : ℕ) → i < k → P i) → P k → (i : ℕ) → i < k + 1 → P i
+below-more P k h e i l = go (decLt i k)
+  where
+    go : Dec (i < k) → P i
+    go (yes d) = h i d
+    go (no d) = let q : k ≡ i = omega arith in subst P q e
+
 -- ---- tests that hold everywhere
 
 pub every-true : (n : ℕ) (p : ℕ → Bool) → every n p ≡ true → (k : ℕ) → k < n → p k ≡ true

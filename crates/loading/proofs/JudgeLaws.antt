@@ -16,17 +16,18 @@ use Rattle.surface.specs.Sheet.{goodSide, functions}
 use Rattle.surface.specs.Support.{active, activeInRow, activeCount, activeBefore}
 use Rattle.surface.specs.Table.{cause, levels, limit}
 use Rattle.surface.specs.Fields.{declined, unless, holds, inPart, field, checked, numberAt, allWithin}
-use Rattle.surface.specs.TableFile.{sidesIn, goodSides, sidesField, levelLoaded, levelField, levelFields}
-use Rattle.surface.specs.TableFile.{fileContents}
-use Rattle.surface.proofs.Least.{leastUnder-cong}
+use Rattle.surface.specs.TableFile.{sidesIn, goodSides, sidesField, countsField, levelLoaded, levelField}
+use Rattle.surface.specs.TableFile.{levelFields, fileContents}
 use Rattle.surface.proofs.TableLaws.{good-side}
+use Rattle.tablefile.proofs.CountsField.{counts-field-cong}
 use Rattle.fields.specs.declared.Field as F
 use Rattle.fields.specs.declared.Field.{Field}
 use Rattle.fields.specs.Positions.{bodyAt, partAt, ends}
 use Rattle.fields.proofs.PositionLaws.{checked-faulty, checked-told}
 use Rattle.rows.specs.Rows.{levelsOf, levelRows}
-use Rattle.rows.proofs.RowLaws.{rows-nested, level-rows}
-use Rattle.loading.specs.Judged.{sheetW, sheetH, sidesOf, treeIn, treeJudged, headJudged, endsAt, judgedAs}
+use Rattle.rows.proofs.RowLaws.{rows-nested, rows-least, rows-count}
+use Rattle.loading.specs.Judged.{sheetW, sheetH, sidesOf, treeIn, treeJudged, lastJudged, headJudged, endsAt}
+use Rattle.loading.specs.Judged.{judgedAs}
 
 -- ---- the sides
 
@@ -74,10 +75,7 @@ module _ (t rows : List ℕ) (e : rows ≡ levelRows t) (W H : ℕ) (hW : W ≤ 
   -- the active functions by the rows are those by the tree
   same-active : (L : ℕ)
       → _≡_ {A = ℕ → ℕ → Bool} (λ a b. active W H (levelsOf rows) L a b) (λ a b. active W H (levels t) L a b)
-  same-active L =
-      fun-ext λ a. fun-ext λ b. ap (λ v. eqb v L)
-      (leastUnder-cong W H (levelsOf rows) (levels t)
-      (λ q r hq hr. ap (λ m. levelsOf m q r) e ∙ level-rows t q r (omega arith) (omega arith)) L a b)
+  same-active L = fun-ext λ a. fun-ext λ b. ap (λ v. eqb v L) (rows-least W H t rows L a b hW hH e)
 
   same-level : (L : ℕ) (s : List ℕ) → levelField W H (levelsOf rows) L s ≡ levelField W H (levels t) L s
   unfolding levelField activeCount activeBefore activeInRow
@@ -89,6 +87,12 @@ module _ (t rows : List ℕ) (e : rows ≡ levelRows t) (W H : ℕ) (hW : W ≤ 
       cond (p a b)
       (numberAt body (total b (λ r. count (functions W L) (λ c. p c r)) + count a (λ c. p c b))) (pos 0))
       (same-active L)
+
+  same-counts : (s : List ℕ)
+      → countsField (activeCount W H (levelsOf rows)) s ≡ countsField (activeCount W H (levels t)) s
+  same-counts =
+      counts-field-cong (activeCount W H (levelsOf rows)) (activeCount W H (levels t))
+      (λ L h. rows-count W H t rows L hW hH e)
 
   same-levels : (n : ℕ) (s : List ℕ) → levelFields W H (levelsOf rows) n s ≡ levelFields W H (levels t) n s
   unfolding levelFields
@@ -106,20 +110,20 @@ unfolding fileContents
 head-told file rows g s (F.the-variants.Faulty c) k = rw (s, k)
 head-told file rows g s (F.the-variants.Body end) k =
     let small = small-sides file g in
+    let W = sheetW file in
+    let H = sheetH file in
+    let t = treeIn file end in
     record {
       small-W = small .0;
       small-H = small .1;
       low = k .0;
       size = k .1;
-      inside = k .1;
       nested = rw (k .2) (rows-nested (levels (treeIn file end)));
       contents =
-          rw (
-            s,
-            k .3,
-            ← same-levels (treeIn file end) rows (k .2) (sheetW file) (sheetH file) (small .0) (small .1) 4
-                (drop end file),
-          );
+          rw (s, k .3)
+          (ap₂ (λ j f. inPart j λ counts rest. inPart (f rest) (lastJudged W H t))
+          (sym (same-counts t rows (k .2) W H (small .0) (small .1) (drop end file)))
+          (fun-ext λ rest. sym (same-levels t rows (k .2) W H (small .0) (small .1) 4 rest)));
     }
 
 -- ---- a level

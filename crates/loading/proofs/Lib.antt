@@ -1,4 +1,5 @@
 pub mod LevelLaws
 pub mod JudgeLaws
+pub mod CountsLaws
 pub mod FileLaws
 pub mod ReadLaws

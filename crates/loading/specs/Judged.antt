@@ -5,10 +5,11 @@ use Prim.Native.Nat.{ℕ, _-_, _≤_}
 use lib.Dec.{ltb}
 use lib.IntN.{ℤ}
 use lib.ListN.{length, getD, take, drop}
+use Rattle.surface.specs.Support.{activeCount}
 use Rattle.surface.specs.Table.{cause, _orElse_, slots}
 use Rattle.surface.specs.Calls.{lengthCause}
 use Rattle.surface.specs.Fields.{Judged, declined, contains, unless, Part, holds, inPart}
-use Rattle.surface.specs.TableFile.{Sides, treeField, levelFields, endCause, fileContents}
+use Rattle.surface.specs.TableFile.{Sides, treeField, countsField, levelFields, File, endCause, fileContents}
 use Rattle.fields.specs.declared.Field as F
 use Rattle.fields.specs.declared.Field.{Field}
 use Rattle.rows.specs.Rows.{levelsOf, Nested, levelRows}
@@ -39,6 +40,32 @@ treeJudged (F.the-variants.Body end) file W H rows =
     × (treeField W H (drop 5 file) ≡ holds (treeIn file end) (drop end file))
 treeJudged (F.the-variants.Faulty c) file W H rows = treeField W H (drop 5 file) ≡ declined c
 
+-- what follows the levels of a file with this sheet and tree
+abbrev pub lastJudged : ℕ → ℕ → List ℕ → List ℤ → List ℕ → File
+lastJudged W H t numbers rest =
+    unless (endCause rest) (contains (record { W = W; H = H; tree = t; numbers = numbers }))
+
+-- the tree's field ends before a position, where the counts or the levels are due
+pub record Front (file : List ℕ) (end W H : ℕ) (rows : List ℕ) : Type 0 where
+  pub small-W : W ≤ 8
+  pub small-H : H ≤ 8
+  pub low : 8 ≤ end
+  pub size : end ≤ length file
+  pub nested : Nested rows
+  pub contents : fileContents file
+      ≡ inPart (countsField (activeCount W H (levelsOf rows)) (drop end file)) λ counts rest.
+      inPart (levelFields W H (levelsOf rows) 4 rest) (lastJudged W H (treeIn file end))
+
+abbrev pub headJudged : Field → List ℕ → List ℕ → Type 0
+headJudged (F.the-variants.Body end) file rows = Front file end (sheetW file) (sheetH file) rows
+headJudged (F.the-variants.Faulty c) file rows = fileContents file ≡ declined c
+
+-- ---- the counts
+
+-- that of a level, among those that were found
+abbrev pub countOf : List ℕ → ℕ → ℕ
+countOf counts L = getD counts L 0
+
 -- the tree's field ends before one position, and the levels are due at another
 pub record Head (file : List ℕ) (end from W H : ℕ) (rows : List ℕ) : Type 0 where
   pub small-W : W ≤ 8
@@ -48,19 +75,18 @@ pub record Head (file : List ℕ) (end from W H : ℕ) (rows : List ℕ) : Type 
   pub inside : from ≤ length file
   pub nested : Nested rows
   pub contents : fileContents file
-      ≡ inPart (levelFields W H (levelsOf rows) 4 (drop from file)) λ numbers rest.
-      unless (endCause rest) (contains (record { W = W; H = H; tree = treeIn file end; numbers = numbers }))
-
--- here the levels are due where the tree's field ends
-abbrev pub headJudged : Field → List ℕ → List ℕ → Type 0
-headJudged (F.the-variants.Body end) file rows = Head file end end (sheetW file) (sheetH file) rows
-headJudged (F.the-variants.Faulty c) file rows = fileContents file ≡ declined c
+      ≡ inPart (levelFields W H (levelsOf rows) 4 (drop from file)) (lastJudged W H (treeIn file end))
 
 -- ---- the levels
 
 -- a part ends before a position of the file
 abbrev pub endsAt : {A : Type 0} → List ℕ → ℕ → Judged (Part A) → Type 0
 endsAt {A} file end j = (end ≤ length file) × ((a : A) × (j ≡ holds a (drop end file)))
+
+-- a body ends in the file
+abbrev pub inside : Field → List ℕ → Type 0
+inside (F.the-variants.Body end) file = end ≤ length file
+inside (F.the-variants.Faulty c) file = Unit {0}
 
 abbrev pub judgedAs : {A : Type 0} → Field → List ℕ → Judged (Part A) → Type 0
 judgedAs (F.the-variants.Body end) file j = endsAt file end j

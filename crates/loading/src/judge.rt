@@ -1,11 +1,12 @@
 // The judgement of a file in byte order, part by part. Nothing is written but the rows of the regions.
 use fields::Field;
 ghost use mathlib.Core.Path.{_≡_};
-ghost use Prim.Native.Nat.{_≤_};
-ghost use lib.ListN.{length, drop};
-ghost use Rattle.surface.specs.TableFile.{levelField, levelFields, endCause};
-ghost use Rattle.rows.specs.Rows.{levelsOf, Nested};
-ghost use Rattle.loading.specs.Judged.{treeJudged, headJudged, judgedAs};
+ghost use Prim.Native.Nat.{ℕ, _≤_, _<_};
+ghost use lib.ListN.{length, getD, drop};
+ghost use Rattle.surface.specs.Support.{activeCount};
+ghost use Rattle.surface.specs.TableFile.{countsAgree, countsField, levelField, levelFields, endCause};
+ghost use Rattle.activity.specs.Counts.{Counted};
+ghost use Rattle.loading.specs.Judged.{treeJudged, headJudged, countOf, inside, judgedAs};
 
 // The field of the tree, on a sheet with these sides, and the rows of its regions.
 fn tree_judge(file: &[u8], w: usize, h: usize, rows: &mut [u32; 96]) -> Field
@@ -50,13 +51,51 @@ pub fn head_judge(file: &[u8], rows: &mut [u32; 96]) -> Field
     tree_judge(file, w, h, rows)
 }
 
-// The field of a level, and the coefficients in it.
-fn level_judge(file: &[u8], at: usize, rows: &[u32; 96], w: usize, h: usize, level: usize) -> Field
-    requires { ⌜ (w ≤ 8) × (h ≤ 8) × (level ≤ 3) × (at ≤ length (now file)) × Nested (now rows) ⌝ }
-    ensures { λ r. ⌜ judgedAs r (now (file .entry))
-        (levelField w h (levelsOf (now (rows .entry))) level (drop at (now (file .entry)))) ⌝ }
+// Whether the counts in a body are those found.
+fn counts_agree(body: &[u8], counts: [usize; 4]) -> bool
+    requires { ⌜ length (now body) ≡ 8 ⌝ }
+    ensures { λ r. ⌜ r ≡ countsAgree (countOf counts) (now (body .entry)) ⌝ }
 {
-    let count = activity::count::active_count(rows, w, h, level);
+    let mut level = 0;
+    while level < tablefile::LEVELS {
+        if fields::two_bytes(body, 2 * level) != counts[level] {
+            return false;
+        }
+        level += 1;
+    }
+    true
+}
+
+// The field of the counts, given those of the tree, and the position after it; the position itself where it is lacking.
+pub fn counts_judge(file: &[u8], at: usize, counts: [usize; 4]) -> Field
+    requires { ⌜ at ≤ length (now file) ⌝ }
+    ensures { λ r. ⌜ judgedAs r (now (file .entry)) (countsField (countOf counts) (drop at (now (file .entry)))) ⌝ }
+{
+    if at == file.len() {
+        return Field::Body(at);
+    }
+    if file[at] != tablefile::COUNTS_TAG {
+        return Field::Body(at);
+    }
+    let n = tablefile::COUNTS;
+    let counted = fields::field_at(file, at, tablefile::COUNTS_TAG, n, n);
+    let Field::Body(end) = counted else {
+        return counted;
+    };
+    let body = at + fields::HEAD;
+    if !counts_agree(&file[body..end], counts) {
+        return Field::Faulty(20);
+    }
+    counted
+}
+
+// The field of a level that has so many active functions, and the coefficients in it.
+fn level_judge(file: &[u8], at: usize, count: usize, level: usize) -> Field
+    requires { ⌜ (level ≤ 3) × (at ≤ length (now file)) × (count ≤ 4489) ⌝ }
+    ensures { λ r. ⌜ inside r (now (file .entry))
+        × ((W H : ℕ) (lev : ℕ → ℕ → ℕ) → count ≡ activeCount W H lev level
+        → judgedAs r (now (file .entry)) (levelField W H lev level (drop at (now (file .entry))))) ⌝ }
+{
     let n = fields::number::SIZE * count;
     let f = fields::field_at(file, at, tablefile::LEVEL_TAG + level as u8, n, n);
     let Field::Body(end) = f else {
@@ -70,16 +109,16 @@ fn level_judge(file: &[u8], at: usize, rows: &[u32; 96], w: usize, h: usize, lev
     Field::Faulty(4)
 }
 
-// The fields of the levels from a position on, and the position after them.
-pub fn levels_judge(file: &[u8], from: usize, rows: &[u32; 96], w: usize, h: usize) -> Field
-    requires { ⌜ (w ≤ 8) × (h ≤ 8) × (from ≤ length (now file)) × Nested (now rows) ⌝ }
-    ensures { λ r. ⌜ judgedAs r (now (file .entry))
-        (levelFields w h (levelsOf (now (rows .entry))) 4 (drop from (now (file .entry)))) ⌝ }
+// The fields of the levels from a position on, given their active functions, and the position after them.
+pub fn levels_judge(file: &[u8], from: usize, counts: [usize; 4]) -> Field
+    requires { ⌜ (from ≤ length (now file)) × ((L : ℕ) → L < 4 → getD counts L 0 ≤ 4489) ⌝ }
+    ensures { λ r. ⌜ ((W H : ℕ) (lev : ℕ → ℕ → ℕ) → Counted W H lev counts
+        → judgedAs r (now (file .entry)) (levelFields W H lev 4 (drop from (now (file .entry))))) ⌝ }
 {
     let mut at = from;
     let mut level = 0;
     while level < tablefile::LEVELS {
-        let f = level_judge(file, at, rows, w, h, level);
+        let f = level_judge(file, at, counts[level], level);
         let Field::Body(end) = f else {
             return f;
         };

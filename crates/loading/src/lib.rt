@@ -9,7 +9,8 @@ ghost use lib.ListN.{drop};
 ghost use Rattle.surface.specs.TableFile.{levelFields};
 ghost use Rattle.demands.specs.FilePromises.{ReadPromise};
 ghost use Rattle.rows.specs.Rows.{levelsOf};
-ghost use Rattle.loading.specs.Judged.{sheetW, sheetH, Head, endsAt, lastly};
+ghost use Rattle.activity.specs.Counts.{Counted};
+ghost use Rattle.loading.specs.Judged.{sheetW, sheetH, Front, Head, endsAt, lastly};
 
 // Where the sides stand in a file: after the first head.
 pub const W: usize = fields::HEAD;
@@ -79,19 +80,52 @@ fn read_levels(
     end: usize,
     from: usize,
     rows: &[u32; 96],
+    w: usize,
+    h: usize,
+    counts: [usize; 4],
     tree_out: &mut [u8],
     numbers_out: &mut [i64],
 ) -> answers::File
-    requires { ⌜ Head (now file) end from (sheetW (now file)) (sheetH (now file)) (now rows) ⌝ }
+    requires { ⌜ Head (now file) end from w h (now rows) × Counted w h (levelsOf (now rows)) counts ⌝ }
+    ensures { λ r. ⌜ ReadPromise (now (file .entry)) (now («tree_out» .entry)) (now («numbers_out» .entry)) r
+        (now («tree_out» .exit)) (now («numbers_out» .exit)) ⌝ }
+{
+    let f = judge::levels_judge(file, from, counts);
+    match f {
+        Field::Faulty(c) => answers::File::Refused(c),
+        Field::Body(last) => fill(file, end, from, last, rows, w, h, tree_out, numbers_out),
+    }
+}
+
+// Judges what follows the tree, whose field ends at `end`: the counts, where they stand there, and the levels.
+fn read_counted(
+    file: &[u8],
+    end: usize,
+    rows: &[u32; 96],
+    tree_out: &mut [u8],
+    numbers_out: &mut [i64],
+) -> answers::File
+    requires { ⌜ Front (now file) end (sheetW (now file)) (sheetH (now file)) (now rows) ⌝ }
     ensures { λ r. ⌜ ReadPromise (now (file .entry)) (now («tree_out» .entry)) (now («numbers_out» .entry)) r
         (now («tree_out» .exit)) (now («numbers_out» .exit)) ⌝ }
 {
     let w = file[W] as usize;
     let h = file[H] as usize;
-    let f = judge::levels_judge(file, from, rows, w, h);
+    let counts = activity::count::active_counts(rows, w, h);
+    let f = judge::counts_judge(file, end, counts);
     match f {
         Field::Faulty(c) => answers::File::Refused(c),
-        Field::Body(last) => fill(file, end, from, last, rows, w, h, tree_out, numbers_out),
+        Field::Body(from) => read_levels(
+            file,
+            end,
+            from,
+            rows,
+            w,
+            h,
+            counts,
+            tree_out,
+            numbers_out,
+        ),
     }
 }
 
@@ -104,7 +138,6 @@ pub fn read_file(file: &[u8], tree_out: &mut [u8], numbers_out: &mut [i64]) -> a
     let f = judge::head_judge(file, &mut rows);
     match f {
         Field::Faulty(c) => answers::File::Refused(c),
-        // The levels start where the tree's field ends.
-        Field::Body(end) => read_levels(file, end, end, &rows, tree_out, numbers_out),
+        Field::Body(end) => read_counted(file, end, &rows, tree_out, numbers_out),
     }
 }

@@ -16,13 +16,12 @@ use Rattle.surface.specs.Spline.{cellOf, piece}
 use Rattle.surface.specs.Support.{leastUnder, inRegion}
 use Rattle.surface.specs.Patch.{subdivided, patch, patchReading}
 use Rattle.surface.specs.Table.{levels, coefficients, limit, slots, Acceptable, tableReading}
-use Rattle.surface.proofs.Least.{leastUnder-cong}
 use Rattle.surface.proofs.SplineCell.{cell-inside}
 use Rattle.surface.proofs.PatchReading.{subdivided-cong}
 use Rattle.surface.proofs.TableLaws.{sound, sides}
 use Rattle.surface.proofs.Demands.{patch-evaluates}
 use Rattle.rows.specs.Rows.{levelsOf, Nested}
-use Rattle.rows.proofs.RowLaws.{rows-nested, level-rows}
+use Rattle.rows.proofs.RowLaws.{rows-nested, rows-least}
 use Rattle.patch.specs.Patches.{entry, Bounded, Evaluated}
 use Rattle.point.specs.OfTable.{OfTable}
 use Rattle.point.specs.Patches.{PatchAt}
@@ -93,8 +92,7 @@ module _ (W H : ℕ) (rows : List ℕ) (cs : List ℤ) (u v : ℕ) (given : Read
   by-tree =
       let n = sides (sound W H t cs acc) in
       patch-cong W H (levelsOf rows) (levels t) (coefficients W H cs) u v
-      (leastUnder-cong W H (levelsOf rows) (levels t) λ q r hq hr.
-      ap (λ x. levelsOf x q r) (given .2 .1) ∙ level-rows t q r (omega arith) (omega arith))
+      (λ L a b. rows-least W H t rows L a b (n .1) (n .3) (given .2 .1))
 
   on-sheet : onSheet W H u v ≡ true
   on-sheet = and-intro (leb u (128 * W)) (leb v (128 * H)) (le-leb u (128 * W) (given .0))

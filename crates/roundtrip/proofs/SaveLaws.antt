@@ -1,5 +1,6 @@
 -- What the outcomes of saving and of loading say of the file that was written or read, of any answers.
-use mathlib.Core.Path.{_≡_, refl, sym, ap, _∙_, subst}
+use mathlib.Core.Path.{_≡_, refl, sym, ap, _∙_}
+use mathlib.Core.Bool.{Bool}
 use mathlib.Core.List.{List}
 use Prim.Native.Nat.{ℕ, _≤_}
 use native.Mathlib.Omega.{arith}
@@ -7,15 +8,15 @@ use borrow.Author.Tests.{le-ltb, eq-eqb}
 use lib.IntN.{ℤ}
 use lib.ListN.{length, take, drop}
 use lib.Seq.{take-append-seam}
-use Rattle.surface.specs.Table.{cause, _orElse_, slots, tableCause, Acceptable}
+use Rattle.surface.specs.Table.{cause, slots, tableCause, Acceptable}
 use Rattle.surface.specs.Calls.{Answer, gives, afterwards, put, written, TableMeets, done, SliceMeets, lengthCause}
 use Rattle.surface.specs.Calls.{treeOutCause, outputsCause}
-use Rattle.surface.specs.Fields.{declined, contains, Bytes}
-use Rattle.surface.specs.TableFile.{Loaded, File, fileContents, FileResult, fileOutcomeOf, fileOutcome, fileOf}
+use Rattle.surface.specs.Fields.{declined, contains}
+use Rattle.surface.specs.TableFile.{Loaded, File, fileContents, FileResult, fileOutcomeOf, fileOutcome}
+use Rattle.surface.specs.TableFile.{fileWith, fileOf}
 use Rattle.surface.specs.Saving.{fileOutCause, saveCause, saveOutcome}
 use Rattle.surface.proofs.Causes.{orElse-none, none-orElse}
 use Rattle.surface.proofs.RefusalLaws.{answer-gives}
-use Rattle.surface.proofs.FileRefusals.{file-fits}
 use Rattle.tablefile.proofs.Saved.{saved-loads}
 
 -- the front of what is put is what was put
@@ -68,15 +69,15 @@ outputs-none W H tree treeOut numbersOut room size =
     (rw (eq-eqb (length numbersOut) (slots W H) size))
     (ap (cause 17) (le-ltb (length treeOut) (length tree) room))
 
--- the file of an acceptable table is loaded to outputs that hold the table
-pub loading-done : (W H : ℕ) (t : List ℕ) (cs : List ℤ) → Acceptable W H t cs → (treeOut : List ℕ) (numbersOut : List ℤ)
-    → length t ≤ length treeOut → length numbersOut ≡ slots W H
+-- the file of an acceptable table, with the counts or without them, is loaded to outputs that hold the table
+pub loading-done : (counts : Bool) (W H : ℕ) (t : List ℕ) (cs : List ℤ) → Acceptable W H t cs
+    → (treeOut : List ℕ) (numbersOut : List ℤ) → length t ≤ length treeOut → length numbersOut ≡ slots W H
     → (a : Answer FileResult) (tree : List ℕ) (numbers : List ℤ)
-    → TableMeets (fileOutcome (fileOf W H t cs) treeOut numbersOut) a tree numbers
+    → TableMeets (fileOutcome (fileWith counts W H t cs) treeOut numbersOut) a tree numbers
     → (a ≡ gives (record { treeLength = length t; W = W; H = H })) × (tree ≡ put t treeOut) × (numbers ≡ cs)
 unfolding fileOutcome
-loading-done W H t cs good treeOut numbersOut room size a tree numbers p =
-    let o = ap (λ f. fileOutcomeOf f treeOut numbersOut) (saved-loads W H t cs good .0)
+loading-done counts W H t cs good treeOut numbersOut room size a tree numbers p =
+    let o = ap (λ f. fileOutcomeOf f treeOut numbersOut) (saved-loads counts W H t cs good .0)
     ∙ ap (λ c. written c (record { treeLength = length t; W = W; H = H }) t cs treeOut numbersOut)
     (outputs-none W H t treeOut numbersOut room size) in (
       p .0 ∙ ap (λ o. o .result) o,

@@ -14,8 +14,11 @@ use Rattle.finite.specs.Bits.{bit, wordOf}
 use Rattle.finite.specs.Range.{every}
 use Rattle.finite.proofs.Bits.{bit-shr, bit-shl, bit-shl-low, bit-past, bit-mod, bits-same, word-bit, word-small}
 use Rattle.finite.proofs.Table.{length-table, getD-table}
-use Rattle.finite.proofs.Tests.{every-true}
+use Rattle.finite.proofs.Tests.{every-true, total-cong, count-cong}
+use Rattle.surface.specs.Sheet.{functions}
+use Rattle.surface.specs.Support.{leastUnder, activeInRow, activeCount}
 use Rattle.surface.specs.Table.{levels}
+use Rattle.surface.proofs.Least.{leastUnder-cong}
 use Rattle.rows.specs.Rows.{inRows, levelsOf, Nested, above, rowsOf, levelRows, inSpan, Painted, Fit, Raised}
 use Rattle.rows.proofs.SmallLevels.{levels-small}
 use Rattle.rows.proofs.Spans.{in-span, before-span, past-span, join-quarters}
@@ -100,6 +103,21 @@ module _ (lev : ℕ → ℕ → ℕ) where
 
 pub level-rows : (t : List ℕ) (q r : ℕ) → q < 32 → r < 32 → levelsOf (levelRows t) q r ≡ levels t q r
 level-rows t q r hq hr = rows-levels (levels t) q r hq hr (levels-small t q r)
+
+-- the least level under a support by the rows is that by the tree
+pub rows-least : (W H : ℕ) (t rows : List ℕ) (L a b : ℕ) → W ≤ 8 → H ≤ 8 → rows ≡ levelRows t
+    → leastUnder W H (levelsOf rows) L a b ≡ leastUnder W H (levels t) L a b
+rows-least W H t rows L a b hW hH e =
+    leastUnder-cong W H (levelsOf rows) (levels t)
+    (λ q r hq hr. ap (λ m. levelsOf m q r) e ∙ level-rows t q r (omega arith) (omega arith)) L a b
+
+-- so are the active functions of a level counted alike
+pub rows-count : (W H : ℕ) (t rows : List ℕ) (L : ℕ) → W ≤ 8 → H ≤ 8 → rows ≡ levelRows t
+    → activeCount W H (levelsOf rows) L ≡ activeCount W H (levels t) L
+unfolding activeCount activeInRow
+rows-count W H t rows L hW hH e =
+    total-cong (functions H L) _ _
+    λ b _. count-cong (functions W L) _ _ λ a _. ap (λ l. eqb l L) (rows-least W H t rows L a b hW hH e)
 
 -- ---- painting
 

@@ -1,41 +1,47 @@
 -- The whole file by the regions and the coefficients: its length, what a checked table has, and that it is the table's.
-use mathlib.Core.Path.{_≡_, refl, sym, ap, _∙_, subst}
+use mathlib.Core.Path.{_≡_, refl, ap, ap₂, _∙_}
 use mathlib.Core.Bool.{Bool, true, false}
 use mathlib.Core.List.{List, [], _∷_, _++_}
-use Prim.Native.Nat.{ℕ, _+_, _*_, _≤_, _<_}
+use Prim.Native.Nat.{ℕ, _+_, _≤_, _<_}
 use native.Mathlib.Omega.{arith}
 use lib.Dec.{lit<, eqb}
-use lib.IntN.{ℤ, pos, natAbs}
-use lib.ListN.{length, length-append}
+use lib.IntN.{ℤ}
+use lib.ListN.{length, getD, length-append}
 use Rattle.finite.specs.Range.{total, joined}
 use Rattle.finite.proofs.Joined.{joined-length, joined-cong}
 use Rattle.surface.specs.Sheet.{functions}
-use Rattle.surface.specs.Support.{active}
-use Rattle.surface.specs.Table.{_orElse_, levels, coefficients, limit, tableCause}
+use Rattle.surface.specs.Support.{active, activeCount}
+use Rattle.surface.specs.Table.{_orElse_, levels, coefficients, tableCause}
 use Rattle.surface.specs.Calls.{put, done}
 use Rattle.surface.specs.Fields.{fieldBytes}
-use Rattle.surface.specs.TableFile.{fileOf}
+use Rattle.surface.specs.TableFile.{countsBody, fileWith, fileOf}
 use Rattle.surface.specs.Saving.{fileOutCause, saveCause, saveOutcome}
-use Rattle.surface.proofs.Least.{leastUnder-cong}
 use Rattle.surface.proofs.TableLaws.{Sound, sides}
+use Rattle.tablefile.proofs.CountsField.{counts-length, counts-body-cong}
 use Rattle.tablefile.proofs.SavedLevels.{level-length, limit-small}
 use Rattle.tablefile.proofs.Saved.{tree-size}
 use Rattle.rows.specs.Rows.{levelsOf, levelRows}
-use Rattle.rows.proofs.RowLaws.{level-rows, rows-nested}
-use Rattle.saving.specs.Saved.{Spelt, bytesIf, levelUnder, Checked, Counted, lengthBy, fileUnder, savedOutcome}
+use Rattle.rows.proofs.RowLaws.{rows-least, rows-count, rows-nested}
+use Rattle.activity.specs.Counts.{Counted}
+use Rattle.saving.specs.Saved.{Spelt, bytesIf, levelUnder, Checked, lengthBy, fileUnder}
+use Rattle.saving.specs.Saved.{savedOutcome}
 use Rattle.saving.proofs.BodyLaws.{body-cong}
 
 -- ---- its length
 
 module _ (W H : ℕ) (t : List ℕ) (lev : ℕ → ℕ → ℕ) (coef : ℕ → ℕ → ℕ → ℤ) where
   -- that of the fields before the levels, and theirs
-  pub parts-size : length (fileUnder W H t lev coef) ≡ 8 + length t + length (joined 4 (levelUnder W H lev coef))
+  pub parts-size : length (fileUnder W H t lev coef) ≡ 19 + length t + length (joined 4 (levelUnder W H lev coef))
   unfolding fileUnder
   parts-size =
+      let front = fieldBytes 1 (W ∷ H ∷ []) ++ fieldBytes 2 t in
+      let counts = fieldBytes 3 (countsBody (activeCount W H lev)) in
       omega (
         arith,
-        length-append (fieldBytes 1 (W ∷ H ∷ []) ++ fieldBytes 2 t) (joined 4 (levelUnder W H lev coef)),
+        length-append (front ++ counts) (joined 4 (levelUnder W H lev coef)),
+        length-append front counts,
         length-append (fieldBytes 1 (W ∷ H ∷ [])) (fieldBytes 2 t),
+        counts-length (activeCount W H lev),
       )
 
   pub file-size : (counts : List ℕ) → Counted W H lev counts
@@ -55,6 +61,12 @@ module _ (W H : ℕ) (t : List ℕ) (lev : ℕ → ℕ → ℕ) (coef : ℕ → 
         n 2 (lit< tt) .0,
         n 3 (lit< tt) .0,
       )
+
+-- the counts that were found are the ones of the file
+pub counts-found : (W H : ℕ) (lev : ℕ → ℕ → ℕ) (counts : List ℕ) → Counted W H lev counts
+    → countsBody (λ L. getD counts L 0) ≡ countsBody (activeCount W H lev)
+counts-found W H lev counts n =
+    counts-body-cong (λ L. getD counts L 0) (activeCount W H lev) (λ L h. n L h .0)
 
 -- ---- a checked table
 
@@ -82,16 +94,16 @@ checked W H t cs rows s e =
 
 module _ (W H : ℕ) (hW : W ≤ 8) (hH : H ≤ 8) (t rows : List ℕ) (cs : List ℤ) (e : rows ≡ levelRows t) where
   same-file : fileUnder W H t (levelsOf rows) (coefficients W H cs) ≡ fileOf W H t cs
-  unfolding fileOf fileUnder
+  unfolding fileWith fileUnder
   same-file =
-      ap (λ l. fieldBytes 1 (W ∷ H ∷ []) ++ fieldBytes 2 t ++ l)
+      ap₂ (λ counts l. fieldBytes 1 (W ∷ H ∷ []) ++ fieldBytes 2 t ++ fieldBytes 3 counts ++ l)
+      (counts-body-cong (activeCount W H (levelsOf rows)) (activeCount W H (levels t))
+      λ L h. rows-count W H t rows L hW hH e)
       (joined-cong 4 (levelUnder W H (levelsOf rows) (coefficients W H cs))
       (levelUnder W H (levels t) (coefficients W H cs))
       λ L hL. ap (fieldBytes (16 + L))
       (body-cong W H L (levelsOf rows) (levels t) (coefficients W H cs) (coefficients W H cs)
-      λ a b ha hb. ap (λ l. bytesIf (eqb l L) (coefficients W H cs L a b))
-      (leastUnder-cong W H (levelsOf rows) (levels t)
-      (λ q r hq hr. ap (λ m. levelsOf m q r) e ∙ level-rows t q r (omega arith) (omega arith)) L a b)))
+      λ a b ha hb. ap (λ l. bytesIf (eqb l L) (coefficients W H cs L a b)) (rows-least W H t rows L a b hW hH e)))
 
   -- and the outcome of writing it is that of saving the table
   pub same-outcome : (out : List ℕ) → 0 ≡ tableCause W H t cs

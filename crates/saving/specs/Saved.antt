@@ -11,7 +11,7 @@ use Rattle.surface.specs.Support.{activeCount}
 use Rattle.surface.specs.Table.{slots, coefficients}
 use Rattle.surface.specs.Calls.{put, Done, done}
 use Rattle.surface.specs.Fields.{fieldBytes, numberBytes}
-use Rattle.surface.specs.TableFile.{levelBody}
+use Rattle.surface.specs.TableFile.{levelBody, countsBody}
 use Rattle.surface.specs.Saving.{fileOutCause}
 use Rattle.rows.specs.Rows.{Nested}
 
@@ -54,17 +54,17 @@ pub record Checked (W H : ℕ) (t : List ℕ) (cs : List ℤ) (rows : List ℕ) 
   pub spelt : (L : ℕ) → L < 4 → LevelSpelt W H (coefficients W H cs) L
   pub nested : Nested rows
 
--- the active functions of each level
-abbrev pub Counted : ℕ → ℕ → (ℕ → ℕ → ℕ) → List ℕ → Type 0
-Counted W H lev counts = (L : ℕ) → L < 4 → (getD counts L 0 ≡ activeCount W H lev L) × (getD counts L 0 ≤ 4489)
-
--- the length by the tree's and by those counts: six heads, two sides, the tree, five bytes for each active function
+-- the length by the tree's and by the counts: seven heads, two sides, the tree, eight bytes for the counts, five for
+-- each active function
 abbrev pub lengthBy : ℕ → List ℕ → ℕ
-lengthBy tree counts = 20 + tree + 5 * (getD counts 0 0 + getD counts 1 0 + getD counts 2 0 + getD counts 3 0)
+lengthBy tree counts = 31 + tree + 5 * (getD counts 0 0 + getD counts 1 0 + getD counts 2 0 + getD counts 3 0)
 
 unfoldable pub fileUnder : ℕ → ℕ → List ℕ → (ℕ → ℕ → ℕ) → (ℕ → ℕ → ℕ → ℤ) → List ℕ
 fileUnder W H t lev coef =
-    fieldBytes 1 (W ∷ H ∷ []) ++ fieldBytes 2 t ++ joined 4 (λ L. levelUnder W H lev coef L)
+    fieldBytes 1 (W ∷ H ∷ [])
+    ++ fieldBytes 2 t
+    ++ fieldBytes 3 (countsBody (activeCount W H lev))
+    ++ joined 4 (λ L. levelUnder W H lev coef L)
 
 -- written if 18 does not apply
 abbrev pub savedOutcome : ℕ → ℕ → List ℕ → (ℕ → ℕ → ℕ) → (ℕ → ℕ → ℕ → ℤ) → List ℕ → Done ℕ ℕ

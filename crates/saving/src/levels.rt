@@ -10,21 +10,9 @@ ghost use Rattle.surface.specs.Table.{places, slots, coefficients};
 ghost use Rattle.surface.specs.TableFile.{levelBody};
 ghost use Rattle.rows.specs.Rows.{levelsOf, Nested};
 ghost use Rattle.activity.specs.Marks.{marked};
+ghost use Rattle.activity.specs.Counts.{Counted};
 ghost use Rattle.fields.specs.Put.{Put};
-ghost use Rattle.saving.specs.Saved.{Spelt, bytesIf, markedBytes, inPart, LevelSpelt, levelUnder, Counted};
-
-// The active functions of each level.
-pub fn counts(rows: &[u32; 96], w: usize, h: usize) -> [usize; 4]
-    requires { ⌜ (w ≤ 8) × (h ≤ 8) × Nested (now rows) ⌝ }
-    ensures { λ r. ⌜ Counted w h (levelsOf (now (rows .entry))) r ⌝ }
-{
-    [
-        activity::count::active_count(rows, w, h, 0),
-        activity::count::active_count(rows, w, h, 1),
-        activity::count::active_count(rows, w, h, 2),
-        activity::count::active_count(rows, w, h, 3),
-    ]
-}
+ghost use Rattle.saving.specs.Saved.{Spelt, bytesIf, markedBytes, inPart, LevelSpelt, levelUnder};
 
 // Puts a number if its mark is 1.
 fn put_if(mark: u64, number: i64, out: &mut [u8], at: usize) -> usize

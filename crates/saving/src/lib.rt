@@ -1,5 +1,6 @@
 // The call that writes a table file: the table is checked and the file's length found, then its fields are put in
 // order.
+mod counts;
 mod levels;
 
 ghost use mathlib.Core.Path.{_≡_};
@@ -12,8 +13,9 @@ ghost use Rattle.surface.specs.Fields.{fieldBytes};
 ghost use Rattle.demands.specs.FilePromises.{WritePromise};
 ghost use Rattle.answers.specs.Answers.{lengthAnswer};
 ghost use Rattle.rows.specs.Rows.{levelsOf};
+ghost use Rattle.activity.specs.Counts.{Counted};
 ghost use Rattle.fields.specs.Put.{Put};
-ghost use Rattle.saving.specs.Saved.{Checked, Counted, lengthBy, fileUnder, savedOutcome};
+ghost use Rattle.saving.specs.Saved.{Checked, lengthBy, fileUnder, savedOutcome};
 
 // The length of a file, by that of its tree and the active functions of each level.
 fn file_length(tree: usize, counts: [usize; 4]) -> usize
@@ -22,7 +24,7 @@ fn file_length(tree: usize, counts: [usize; 4]) -> usize
 {
     let heads = tablefile::FIELDS * fields::HEAD;
     let active = counts[0] + counts[1] + counts[2] + counts[3];
-    heads + tablefile::SIDES + tree + fields::number::SIZE * active
+    heads + tablefile::SIDES + tree + tablefile::COUNTS + fields::number::SIZE * active
 }
 
 // Puts the field of the sides at the front of a buffer.
@@ -62,7 +64,8 @@ fn put_file(
 {
     let field = put_sides(w, h, out);
     let end = put_tree(tree, out, field);
-    levels::put_levels(numbers, rows, w, h, counts, out, end)
+    let from = counts::put_counts(counts, out, end);
+    levels::put_levels(numbers, rows, w, h, counts, out, from)
 }
 
 // Writes the file of a table that was checked, with its regions, or refuses it with 18 and writes nothing.
@@ -78,7 +81,7 @@ fn write_checked(
     ensures { λ r. ⌜ SliceMeets (savedOutcome w h (now (tree .entry)) (levelsOf (now (rows .entry)))
         (coefficients w h (now (numbers .entry))) (now (out .entry))) (lengthAnswer r) (now (out .exit)) ⌝ }
 {
-    let counts = levels::counts(rows, w, h);
+    let counts = activity::count::active_counts(rows, w, h);
     let length = file_length(tree.len(), counts);
     if out.len() < length {
         return answers::Length::Refused(18);

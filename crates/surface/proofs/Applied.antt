@@ -1,21 +1,22 @@
 -- The definitions applied to small cases, which compute: what a reader can work by hand from document 01.
 use mathlib.Core.Path.{_≡_, refl}
 use mathlib.Core.Bool.{_&&_, cond}
-use mathlib.Core.List.{[], _∷_}
+use mathlib.Core.List.{List, [], _∷_, _++_}
 use Prim.Native.Nat.{ℕ, _+_, _*_, _^_}
 use lib.IntN.{pos, negℤ, _-ℤ_}
 use lib.Dec.{leb, ltb}
 use lib.ListN.{drop, replicate}
-use Rattle.finite.specs.Range.{sum, every, least, tableFrom, joined}
+use Rattle.finite.specs.Range.{sum, every, count, total, least, tableFrom, joined}
 use Rattle.surface.specs.Sheet.{Box, eighths}
 use Rattle.surface.specs.Quadtree.{leaf, split, bytes, parse, wellFormed, levelAt, regionTree, visits}
-use Rattle.surface.specs.Support.{leastUnder, active}
+use Rattle.surface.specs.Support.{leastUnder, active, activeInRow, activeCount}
 use Rattle.surface.specs.Spline.{cellOf, piece, splineAt}
 use Rattle.surface.specs.Truncation.{weight, truncated}
 use Rattle.surface.specs.Carry.{raised, carried}
 use Rattle.surface.specs.Table.{levels, start, coefficients, withinLimits, passiveZero, regionCause, tableCause}
-use Rattle.surface.specs.Calls.{wholeWatts}
-use Rattle.surface.specs.TableFile.{levelBody, fileOf}
+use Rattle.surface.specs.Calls.{gives, wholeWatts}
+use Rattle.surface.specs.Fields.{Judged, declined, Part, holds, field}
+use Rattle.surface.specs.TableFile.{countsAgree, countsField, levelBody, countsBody, fileWith}
 use Rattle.surface.specs.Saving.{saveCause, saveOutcome}
 
 -- ---- the far edge
@@ -91,16 +92,42 @@ pub rounded : (wholeWatts (negℤ (pos (18 * 2 ^ 42))) ≡ pos 0)
 unfolding wholeWatts
 rounded = (refl, refl, refl, refl)
 
+-- ---- the counts in a file
+
+-- "levels 0 to 3", "high byte first": on 1 by 1 at level 0 sixteen functions of level 0 are active
+abbrev pub sixteen : List ℕ
+sixteen = 0 ∷ 16 ∷ 0 ∷ 0 ∷ 0 ∷ 0 ∷ 0 ∷ 0 ∷ []
+
+pub counts-written : countsBody (activeCount 1 1 (λ q r. 0)) ≡ sixteen
+unfolding countsBody joined activeCount activeInRow total count leastUnder least eighths
+counts-written = refl
+
+abbrev judgedFlat : List ℕ → Judged (Part (List ℕ))
+judgedFlat = countsField (activeCount 1 1 (λ q r. 0))
+
+-- What stands after the field is left; a count of one more, and the bytes or the levels in another order, are 20; a
+-- body that is not whole is 12 before it, another length 14; another tag is left for the levels.
+pub counts-judged : (judgedFlat (3 ∷ 0 ∷ 8 ∷ sixteen ++ 16 ∷ []) ≡ holds sixteen (16 ∷ []))
+    × (judgedFlat (3 ∷ 0 ∷ 8 ∷ 0 ∷ 16 ∷ 0 ∷ 0 ∷ 0 ∷ 0 ∷ 0 ∷ 1 ∷ []) ≡ declined 20)
+    × (judgedFlat (3 ∷ 0 ∷ 8 ∷ 16 ∷ 0 ∷ 0 ∷ 0 ∷ 0 ∷ 0 ∷ 0 ∷ 0 ∷ []) ≡ declined 20)
+    × (judgedFlat (3 ∷ 0 ∷ 8 ∷ 0 ∷ 0 ∷ 0 ∷ 0 ∷ 0 ∷ 0 ∷ 0 ∷ 16 ∷ []) ≡ declined 20)
+    × (judgedFlat (3 ∷ 0 ∷ 8 ∷ 0 ∷ 17 ∷ []) ≡ declined 12)
+    × (judgedFlat (3 ∷ 0 ∷ 7 ∷ sixteen) ≡ declined 14)
+    × (judgedFlat (16 ∷ 3 ∷ []) ≡ holds [] (16 ∷ 3 ∷ []))
+unfolding countsField countsAgree field activeCount activeInRow every total count leastUnder least eighths
+counts-judged = (refl, refl, refl, refl, refl, refl, refl)
+
 -- ---- saving
 
 -- 18 is "judged last": a coefficient past its limit comes before an output that is too short
 pub eighteen-last : saveCause 1 1 (0 ∷ []) (pos 32001 ∷ replicate 210 (pos 0)) [] ≡ 4
 unfolding saveCause tableCause regionCause withinLimits passiveZero every leastUnder least eighths levels levelAt parse
-    wellFormed start coefficients fileOf levelBody joined
+    wellFormed start coefficients fileWith countsBody activeCount activeInRow total count levelBody joined
 eighteen-last = refl
 
--- "bytes past the file are untouched": the file of a 1 by 1 table of zeros has 101
-pub past-the-file : drop 101 (saveOutcome 1 1 (0 ∷ []) (replicate 211 (pos 0)) (replicate 103 7) .after) ≡ 7 ∷ 7 ∷ []
+-- "bytes past the file are untouched": the file of a 1 by 1 table of zeros has 112, 11 of them for the counts
+pub past-the-file : (saveOutcome 1 1 (0 ∷ []) (replicate 211 (pos 0)) (replicate 114 7) .result ≡ gives 112)
+    × (drop 112 (saveOutcome 1 1 (0 ∷ []) (replicate 211 (pos 0)) (replicate 114 7) .after) ≡ 7 ∷ 7 ∷ [])
 unfolding saveOutcome saveCause tableCause regionCause withinLimits passiveZero every leastUnder least eighths levels
-    levelAt parse wellFormed start coefficients fileOf levelBody joined
-past-the-file = refl
+    levelAt parse wellFormed start coefficients fileWith countsBody activeCount activeInRow total count levelBody joined
+past-the-file = (refl, refl)

@@ -1,6 +1,6 @@
 -- The refusals of file reading and of saving: each has one of the call's numbers; what is not declined fills its slice.
 use mathlib.Core.Path.{_≡_, refl, _∙_, subst}
-use mathlib.Core.Bool.{Bool, true, not, _&&_}
+use mathlib.Core.Bool.{Bool, true, false, not, _&&_, cond}
 use mathlib.Core.List.{List, [], _∷_}
 use Prim.Native.Nat.{ℕ, zero, suc, _+_, _*_, _≤_}
 use native.Mathlib.Nat.{mul-comm}
@@ -17,8 +17,8 @@ use Rattle.surface.specs.Table.{limit, tableCause}
 use Rattle.surface.specs.Calls.{put}
 use Rattle.surface.specs.Fields.{Judged, declined, contains, unless, Part, holds, inPart, lengthAt, field}
 use Rattle.surface.specs.Fields.{checked, allWithin}
-use Rattle.surface.specs.TableFile.{sidesIn, goodSides, sidesField, treeField, loaded, levelLoaded}
-use Rattle.surface.specs.TableFile.{levelField, levelFields, Loaded, File, endCause, fileContents}
+use Rattle.surface.specs.TableFile.{sidesIn, goodSides, sidesField, treeField, countsAgree, countsField, loaded}
+use Rattle.surface.specs.TableFile.{levelLoaded, levelField, levelFields, Loaded, File, endCause, fileContents}
 use Rattle.surface.specs.TableFile.{fileOutcomeOf, fileOutcome, fileOf}
 use Rattle.surface.specs.Saving.{saveCause, saveOutcome}
 use Rattle.surface.specs.Demands.{among, WritesAllOrNothing, WritesSliceOrNothing}
@@ -27,7 +27,7 @@ use Rattle.surface.proofs.RefusalLaws.{slice-or-nothing, table-or-nothi
 use Rattle.surface.proofs.Causes.{orElse-none, cause-off}
 
 abbrev js-file : List ℕ
-js-file = 1 ∷ 2 ∷ 4 ∷ 12 ∷ 13 ∷ 14 ∷ 15 ∷ 16 ∷ 17 ∷ []
+js-file = 1 ∷ 2 ∷ 4 ∷ 12 ∷ 13 ∷ 14 ∷ 15 ∷ 16 ∷ 17 ∷ 20 ∷ []
 
 -- a refusal has one of the numbers, and what is held has a property
 data Told (A : Type 0) (P : A → Type 0) : Judged A → Type 0 where
@@ -70,6 +70,17 @@ told-checked P tag low high n ok of s m h =
     λ p u. told-unless P (cause n (not (ok (p .content)))) _ (one-cause n (not (ok (p .content))) js-file m)
     (good (h (p .content) (p .rest)))
 
+-- the counts, or nothing
+told-counts : (n : ℕ → ℕ) (s : List ℕ) → Told (Part (List ℕ)) (λ p. Unit) (countsField n s)
+unfolding countsField
+told-counts n s = go (eqb (getD s 0 0) 3)
+  where
+    go : (t : Bool)
+        → Told (Part (List ℕ)) (λ p. Unit)
+        (cond t (checked (field 3 8 8 s) 20 (countsAgree n) (λ b. b)) (holds [] s))
+    go true = told-checked (λ p. Unit) 3 8 8 20 (countsAgree n) (λ b. b) s refl λ b rest. tt
+    go false = good tt
+
 -- the levels below n fill their part of the slice
 abbrev Fills : ℕ → ℕ → ℕ → Part (List ℤ) → Type 0
 Fills W H n p = length (p .content) ≡ start W H n
@@ -110,8 +121,10 @@ told-file s =
     let H = p .content .H in
     told-in filled (λ p. Unit) (treeField W H (p .rest)) _
     (told-checked (λ p. Unit) 2 1 1365 2 (λ t. formed W H (treeOf t)) (λ t. t) (p .rest) refl λ b rest. tt)
-    λ t v. told-in filled (Fills W H 4) (levelFields W H (levels (t .content)) 4 (t .rest)) _
-    (told-levels W H (levels (t .content)) 4 (t .rest))
+    λ t v. told-in filled (λ p. Unit) (countsField (activeCount W H (levels (t .content))) (t .rest)) _
+    (told-counts (activeCount W H (levels (t .content))) (t .rest))
+    λ c w. told-in filled (Fills W H 4) (levelFields W H (levels (t .content)) 4 (c .rest)) _
+    (told-levels W H (levels (t .content)) 4 (c .rest))
     λ cs h. told-unless filled (endCause (cs .rest)) _ (one-cause 15 (ltb 0 (length (cs .rest))) js-file refl) (good h)
 
 pub file-refusals : (s treeOut : List ℕ) (numbersOut : List ℤ)

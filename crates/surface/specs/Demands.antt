@@ -72,7 +72,7 @@ pub record Refusals : Type 0 where
   pub cost : (W H : ℕ) (t : List ℕ) (cs : List ℤ) (u v tariff : ℕ)
       → RefusesWith (1 ∷ 2 ∷ 3 ∷ 4 ∷ 5 ∷ 6 ∷ 11 ∷ []) (costOutcome W H t cs u v tariff)
   pub file : (bytes : List ℕ) (treeOut : List ℕ) (numbersOut : List ℤ)
-      → WritesAllOrNothing (1 ∷ 2 ∷ 4 ∷ 12 ∷ 13 ∷ 14 ∷ 15 ∷ 16 ∷ 17 ∷ []) (fileOutcome bytes treeOut numbersOut)
+      → WritesAllOrNothing (1 ∷ 2 ∷ 4 ∷ 12 ∷ 13 ∷ 14 ∷ 15 ∷ 16 ∷ 17 ∷ 20 ∷ []) (fileOutcome bytes treeOut numbersOut)
       treeOut numbersOut
   pub save : (W H : ℕ) (t : List ℕ) (cs : List ℤ) (out : List ℕ)
       → WritesSliceOrNothing (1 ∷ 2 ∷ 3 ∷ 4 ∷ 5 ∷ 18 ∷ []) (saveOutcome W H t cs out) out

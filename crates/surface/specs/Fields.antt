@@ -59,6 +59,10 @@ checked f n good of = inPart f λ b rest. unless (cause n (not (good b))) (holds
 
 -- ---- numbers
 
+-- Two bytes, high byte first: the k-th such number of a body.
+abbrev pub twoBytesAt : List ℕ → ℕ → ℕ
+twoBytesAt b k = 256 * getD b (2 * k) 0 + getD b (2 * k + 1) 0
+
 -- "five bytes each, two's complement, high byte first": the k-th number of a body.
 abbrev pub unsignedAt : List ℕ → ℕ → ℕ
 unsignedAt b k =
@@ -85,6 +89,10 @@ Bytes s = (i : ℕ) → i < length s → getD s i 0 < 256
 -- The byte of n that counts 256^k; the higher k is the higher byte.
 abbrev pub byteOf : ℕ → ℕ → ℕ
 byteOf k n = n / 256 ^ k % 256
+
+-- Two bytes, high byte first.
+abbrev pub twoBytes : ℕ → List ℕ
+twoBytes n = byteOf 1 n ∷ byteOf 0 n ∷ []
 
 -- "a one-byte tag, a two-byte length (high byte first) and a body"
 abbrev pub fieldBytes : ℕ → List ℕ → List ℕ

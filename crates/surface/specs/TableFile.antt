@@ -1,18 +1,19 @@
--- Document 01, "The table file": what loading a file gives, judged in byte order: "whole head, tag, length, whole
--- body, contents; after the last field 15, 16, 17"; and the file of a table.
-use mathlib.Core.Bool.{Bool, _&&_, cond}
+-- Document 01, "The table file", with the field of document 02, "Counts in the file": what loading a file gives, judged
+-- in byte order: "whole head, tag, length, whole body, contents; after the last field 15, 16, 17"; and the file of a
+-- table.
+use mathlib.Core.Bool.{Bool, true, _&&_, cond}
 use mathlib.Core.List.{List, [], _∷_, _++_}
 use Prim.Native.Nat.{ℕ, zero, suc, _+_, _*_}
 use lib.IntN.{ℤ, pos}
-use lib.Dec.{ltb}
+use lib.Dec.{ltb, eqb}
 use lib.ListN.{length, getD}
-use Rattle.finite.specs.Range.{grid, joined}
+use Rattle.finite.specs.Range.{every, grid, joined}
 use Rattle.surface.specs.Sheet.{goodSide, functions}
 use Rattle.surface.specs.Support.{active, activeCount, activeBefore}
 use Rattle.surface.specs.Table.{cause, treeOf, formed, levels, coefficients, limit}
 use Rattle.surface.specs.Calls.{Written, refused, written, outputsCause}
 use Rattle.surface.specs.Fields.{Judged, declined, contains, unless, Part, holds, inPart, field, checked}
-use Rattle.surface.specs.Fields.{numberAt, allWithin, fieldBytes, numberBytes}
+use Rattle.surface.specs.Fields.{twoBytesAt, numberAt, allWithin, twoBytes, fieldBytes, numberBytes}
 
 -- ---- the sides and the tree
 
@@ -33,6 +34,17 @@ sidesField s = checked (field 1 2 2 s) 1 (λ b. goodSides (sidesIn b)) sidesIn
 -- "tag 2, the tree"; "Tag 2's length is 1 to 1,365."
 unfoldable pub treeField : ℕ → ℕ → List ℕ → Judged (Part (List ℕ))
 treeField W H s = checked (field 2 1 1365 s) 2 (λ t. formed W H (treeOf t)) (λ t. t)
+
+-- ---- the counts
+
+-- "four two-byte active counts, high byte first, levels 0 to 3": each one is the tree's, which is n L for level L.
+unfoldable pub countsAgree : (ℕ → ℕ) → List ℕ → Bool
+countsAgree n b = every 4 (λ L. eqb (twoBytesAt b L) (n L))
+
+-- "a field of tag 3 after tag 2, eight bytes"; 20 is "a count differs from the tree's, with the contents of tag 3".
+-- "Files lacking it are still loaded": where another tag stands, no byte is taken, and tag 16 is due.
+unfoldable pub countsField : (ℕ → ℕ) → List ℕ → Judged (Part (List ℕ))
+countsField n s = cond (eqb (getD s 0 0) 3) (checked (field 3 8 8 s) 20 (countsAgree n) (λ b. b)) (holds [] s)
 
 -- ---- the coefficients
 
@@ -74,15 +86,16 @@ File = Judged Loaded
 abbrev pub endCause : List ℕ → ℕ
 endCause s = cause 15 (ltb 0 (length s))
 
--- "in this order, all present"
+-- "in this order, all present", but for the counts
 unfoldable pub fileContents : List ℕ → File
 fileContents s =
     inPart (sidesField s) λ sides rest.
     let W = sides .W in
     let H = sides .H in
     inPart (treeField W H rest) λ t rest2.
-    inPart (levelFields W H (levels t) 4 rest2) λ numbers rest3.
-    unless (endCause rest3) (contains (record { W = W; H = H; tree = t; numbers = numbers }))
+    inPart (countsField (activeCount W H (levels t)) rest2) λ counts rest3.
+    inPart (levelFields W H (levels t) 4 rest3) λ numbers rest4.
+    unless (endCause rest4) (contains (record { W = W; H = H; tree = t; numbers = numbers }))
 
 -- ---- the call
 
@@ -120,10 +133,19 @@ rowBytes W H lev coef L b = joined (functions W L) (λ a. placeBytes W H lev coe
 unfoldable pub levelBody : ℕ → ℕ → (ℕ → ℕ → ℕ) → (ℕ → ℕ → ℕ → ℤ) → ℕ → List ℕ
 levelBody W H lev coef L = joined (functions H L) (λ b. rowBytes W H lev coef L b)
 
+-- "four two-byte active counts, high byte first, levels 0 to 3"; n L is that of level L.
+unfoldable pub countsBody : (ℕ → ℕ) → List ℕ
+countsBody n = joined 4 (λ L. twoBytes (n L))
+
 -- "in this order, all present: tag 1, W and H, a byte each; tag 2, the tree; tags 16 to 19, the active coefficients of
--- levels 0 to 3"; document 02: "Each acceptable table has one file".
-unfoldable pub fileOf : ℕ → ℕ → List ℕ → List ℤ → List ℕ
-fileOf W H t cs =
+-- levels 0 to 3"; document 02: "a field of tag 3 after tag 2". With the counts, or lacking them.
+unfoldable pub fileWith : Bool → ℕ → ℕ → List ℕ → List ℤ → List ℕ
+fileWith counts W H t cs =
     fieldBytes 1 (W ∷ H ∷ [])
     ++ fieldBytes 2 t
+    ++ cond counts (fieldBytes 3 (countsBody (activeCount W H (levels t)))) []
     ++ joined 4 (λ L. fieldBytes (16 + L) (levelBody W H (levels t) (coefficients W H cs) L))
+
+-- Document 02: "Each acceptable table has one file"; "The writer always puts it", the field of the counts.
+abbrev pub fileOf : ℕ → ℕ → List ℕ → List ℤ → List ℕ
+fileOf W H t cs = fileWith true W H t cs

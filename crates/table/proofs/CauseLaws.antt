@@ -3,7 +3,6 @@ use mathlib.Core.Path.{_≡_, sym, ap, _∙_}
 use mathlib.Core.Bool.{Bool, true, not, Bool·not-not, _&&_, and-false}
 use mathlib.Core.List.{List}
 use Prim.Native.Nat.{ℕ, _≤_, _<_}
-use native.Mathlib.Omega.{arith}
 use borrow.Author.Tests.{ltb-true, leb-true, lt-ltb, le-ltb, le-leb, lt-leb}
 use lib.Dec.{leb, ltb, eqb}
 use lib.IntN.{ℤ}
@@ -11,16 +10,14 @@ use lib.ListN.{length}
 use Rattle.finite.specs.Range.{every}
 use Rattle.finite.proofs.Tests.{every-cong, every2-cong, both}
 use Rattle.surface.specs.Sheet.{Box, goodSide, functions, quarters}
-use Rattle.surface.specs.Support.{leastUnder}
 use Rattle.surface.specs.Table.{cause, _orElse_, treeOf, formed, levels, slots, coefficients}
 use Rattle.surface.specs.Table.{withinLimits, passiveZero, regionCause, tableCause}
 use Rattle.surface.specs.Calls.{boxCause}
-use Rattle.surface.proofs.Least.{leastUnder-cong}
 use Rattle.surface.proofs.TableLaws.{good-side}
 use Rattle.surface.proofs.Causes.{orElse-none, first, cause-none}
 use Rattle.boxes.specs.Boxes.{InSheet}
 use Rattle.rows.specs.Rows.{levelsOf, levelRows}
-use Rattle.rows.proofs.RowLaws.{level-rows}
+use Rattle.rows.proofs.RowLaws.{rows-least}
 use Rattle.faults.specs.Faults.{Test, limits, zeros, holdsAt, holdsOn}
 
 -- ---- causes 1 and 2
@@ -69,13 +66,6 @@ module _ (W H : ℕ) (t : List ℕ) (cs : List ℤ) where
   table-region r e h = first e h _
 
 -- ---- the rows in place of the tree
-
--- the least level under a support by the rows is that by the tree
-pub rows-least : (W H : ℕ) (t rows : List ℕ) (L a b : ℕ) → W ≤ 8 → H ≤ 8 → rows ≡ levelRows t
-    → leastUnder W H (levelsOf rows) L a b ≡ leastUnder W H (levels t) L a b
-rows-least W H t rows L a b hW hH e =
-    leastUnder-cong W H (levelsOf rows) (levels t)
-    (λ q r hq hr. ap (λ m. levelsOf m q r) e ∙ level-rows t q r (omega arith) (omega arith)) L a b
 
 module _ (W H : ℕ) (t : List ℕ) (cs : List ℤ) (rows : List ℕ) (hW : W ≤ 8) (hH : H ≤ 8) (e : rows ≡ levelRows t) where
   by-rows : (p : Test)

@@ -2,7 +2,8 @@
 use mathlib.Core.Path.{_≡_, ap}
 use mathlib.Core.Bool.{true, false, cond}
 use mathlib.Core.List.{List}
-use Prim.Native.Nat.{ℕ, _-_, _*_, _≤_, _<_}
+use Prim.Native.Nat.{ℕ, _-_, _*_, _^_, _≤_, _<_}
+use native.Mathlib.Nat.{mul-le-mul, pow-le-pow-right}
 use native.Mathlib.Omega.{arith}
 use lib.IntN.{pos, natAbs}
 use lib.Dec.{leb}
@@ -45,6 +46,16 @@ module _ (W H : ℕ) (lev : ℕ → ℕ → ℕ) (L : ℕ) where
   active-count-le =
       total-le (functions H L) (functions W L) (λ b. count (functions W L) (λ a. active W H lev L a b))
       (λ b. count-le (functions W L) (λ a. active W H lev L a b))
+
+  -- so by a bound of its rows and columns
+  pub active-square : (n : ℕ) → functions W L ≤ n → functions H L ≤ n → activeCount W H lev L ≤ n * n
+  active-square n wide high = omega (arith, active-count-le, mul-le-mul high wide)
+
+  -- at most 67 rows of 67
+  pub active-few : W ≤ 8 → H ≤ 8 → L < 4 → activeCount W H lev L ≤ 4489
+  active-few hW hH h =
+      let scale : 2 ^ L ≤ 2 ^ 3 = pow-le-pow-right {n = 2} (omega arith) {i = L} {j = 3} (omega arith) in
+      active-square 67 (omega (arith, mul-le-mul hW scale)) (omega (arith, mul-le-mul hH scale))
 
   -- ---- the numbers of a body
 

@@ -3,25 +3,27 @@ use mathlib.Core.Path.{_≡_, sym, ap, ap₂, _∙_, subst}
 use mathlib.Core.Bool.{true}
 use mathlib.Core.List.{List, [], _∷_, _++_}
 use Prim.Native.Nat.{ℕ, zero, suc, _+_, _*_, _≤_, _<_}
-use native.Mathlib.Nat.{zero-add}
-use native.Mathlib.Decide.{decLt}
+use native.Mathlib.Nat.{zero-add, add-zero}
 use native.Mathlib.Omega.{arith}
 use lib.IntN.{ℤ, natAbs}
-use lib.Dec.{ltb}
+use lib.Dec.{ltb, eqb}
 use borrow.Author.Tests.{ltb-false}
-use lib.ListN.{length, getD}
+use lib.ListN.{length, getD, drop}
+use lib.Seq.{getD-drop, drop-drop}
 use Rattle.finite.specs.Range.{grid}
-use Rattle.finite.proofs.Tests.{both}
+use Rattle.finite.proofs.Tests.{both, below-more}
 use Rattle.surface.specs.Sheet.{goodSide, functions}
 use Rattle.surface.specs.Support.{activeCount}
 use Rattle.surface.specs.Table.{treeOf, formed, levels, coefficients, sliceFrom, sliceOf, limit}
-use Rattle.surface.specs.Fields.{contains, holds, allWithin}
-use Rattle.surface.specs.TableFile.{sidesIn, goodSides, sidesField, treeField, loaded, levelLoaded, levelField}
-use Rattle.surface.specs.TableFile.{levelFields, Loaded, endCause, fileContents}
+use Rattle.surface.specs.Fields.{contains, holds, lengthAt, allWithin}
+use Rattle.surface.specs.TableFile.{sidesIn, goodSides, sidesField, treeField, countsField, loaded, levelLoaded}
+use Rattle.surface.specs.TableFile.{levelField, levelFields, Loaded, endCause, fileContents}
 use Rattle.surface.proofs.TableLaws.{formed-tree, slice-more, slice-length, slice-coefficient, Sound}
 use Rattle.surface.proofs.Causes.{cause-off}
 use Rattle.fields.proofs.FieldLaws.{bodyOf, restOf, Stands, held, unless-accepted, part-accepted, checked-accepted}
+use Rattle.tablefile.specs.Counts.{afterTree, hasCounts}
 use Rattle.tablefile.proofs.ActiveLaws.{loaded-passive, loaded-within}
+use Rattle.tablefile.proofs.CountsField.{pastCounts, CountsStand, counts-accepted}
 
 -- ---- the fields of the levels
 
@@ -61,25 +63,20 @@ levels-accepted W H lev s (suc n) cs rest e =
     (q .0) (q .1) (subst (λ r. levelField W H lev n r ≡ holds (q .0) (q .1)) (ih .end) (q .2)) in
     let h = held (p .0 ++ q .0) cs (q .1) rest (q .3) in
     record {
-      level = λ L l. upTo (ih .level) (record { field = c .0; within = c .1 }) L l (decLt L n);
+      level = λ L l.
+          below-more (LevelStands W H lev s) n (ih .level) (record { field = c .0; within = c .1 }) L (omega arith);
       slice =
           sym (h .0)
           ∙ ap₂ _++_ (ih .slice) (sym (c .2) ∙ ap (λ M. grid (functions W M) (functions H M) (f M)) (sym (zero-add n)))
           ∙ sym (slice-more W H f n 0);
       end = sym (h .1) ∙ sym (c .3);
     }
-  where
-    -- the levels before n, and n
-    upTo : ((L : ℕ) → L < n → LevelStands W H lev s L) → LevelStands W H lev s n → (L : ℕ) → L < suc n → Dec (L < n)
-        → LevelStands W H lev s L
-    upTo before here L l (yes d) = before L d
-    upTo before here L l (no d) = let e : n ≡ L = omega arith in subst (LevelStands W H lev s) e here
 
 -- ---- the whole file
 
--- The bytes after the fields of the sheet and the tree.
+-- The bytes after the fields of the sheet, the tree and the counts.
 abbrev pub levelsIn : List ℕ → List ℕ
-levelsIn s = restOf (restOf s)
+levelsIn s = pastCounts (restOf (restOf s))
 
 -- Each field in its turn, and what was loaded from it.
 pub record Accepted (s : List ℕ) (f : Loaded) : Type 0 where
@@ -91,6 +88,8 @@ pub record Accepted (s : List ℕ) (f : Loaded) : Type 0 where
   pub tree : Stands 2 1 1365 (restOf s)
   pub treeBytes : bodyOf (restOf s) ≡ f .tree
   pub form : formed (f .W) (f .H) (treeOf (f .tree)) ≡ true
+  pub counts : eqb (getD (restOf (restOf s)) 0 0) 3 ≡ true
+      → CountsStand (activeCount (f .W) (f .H) (levels (f .tree))) (restOf (restOf s))
   pub level : (L : ℕ) → L < 4 → LevelStands (f .W) (f .H) (levels (f .tree)) (levelsIn s) L
   pub end : after 4 (levelsIn s) ≡ []
   pub slice : f .numbers ≡ sliceOf (f .W) (f .H) (coefficientsIn (f .W) (f .H) (levels (f .tree)) (levelsIn s))
@@ -114,11 +113,15 @@ accepted s f e =
     let t = p2 .0 in
     let c2 = checked-accepted 2 1 1365 1 (λ t. formed W H (treeOf t)) (λ t. t) (restOf s) t (p2 .1)
     (subst (λ r. treeField W H r ≡ holds t (p2 .1)) (sym (c1 .3)) (p2 .2)) in
-    let p3 = part-accepted (levelFields W H (levels t) 4 (p2 .1)) _ f (p2 .3) in
-    let l = levels-accepted W H (levels t) (levelsIn s) 4 (p3 .0) (p3 .1)
-    (subst (λ r. levelFields W H (levels t) 4 r ≡ holds (p3 .0) (p3 .1)) (sym (c2 .3)) (p3 .2)) in
-    let u = unless-accepted (endCause (p3 .1)) _ f (p3 .3) in
-    let same : _≡_ {A = Loaded} (record { W = W; H = H; tree = t; numbers = p3 .0 }) f = let e = u .1 in cc in
+    let active = activeCount W H (levels t) in
+    let p3 = part-accepted (countsField active (p2 .1)) _ f (p2 .3) in
+    let c3 = counts-accepted active (restOf (restOf s)) (p3 .0) (p3 .1)
+    (subst (λ r. countsField active r ≡ holds (p3 .0) (p3 .1)) (sym (c2 .3)) (p3 .2)) in
+    let p4 = part-accepted (levelFields W H (levels t) 4 (p3 .1)) _ f (p3 .3) in
+    let l = levels-accepted W H (levels t) (levelsIn s) 4 (p4 .0) (p4 .1)
+    (subst (λ r. levelFields W H (levels t) 4 r ≡ holds (p4 .0) (p4 .1)) (sym (c3 .0)) (p4 .2)) in
+    let u = unless-accepted (endCause (p4 .1)) _ f (p4 .3) in
+    let same : _≡_ {A = Loaded} (record { W = W; H = H; tree = t; numbers = p4 .0 }) f = let e = u .1 in cc in
     subst (Accepted s) same
     (record {
       sides = c1 .0;
@@ -129,10 +132,31 @@ accepted s f e =
       tree = c2 .0;
       treeBytes = c2 .2;
       form = sym (ap (λ t. formed W H (treeOf t)) (c2 .2)) ∙ c2 .1;
+      counts = c3 .1;
       level = l .level;
-      end = sym (l .end) ∙ empty (p3 .1) (u .0);
+      end = sym (l .end) ∙ empty (p4 .1) (u .0);
       slice = l .slice;
     })
+
+-- what stands after the fields of the sheet and of the tree, by its position
+module _ (s : List ℕ) (f : Loaded) (r : Accepted s f) where
+  pub sides-end : restOf s ≡ drop 5 s
+  sides-end =
+      let five : 3 + lengthAt s ≡ 5 = omega (arith, r .sides .long, r .sides .short) in
+      ap (λ n. drop n s) five
+
+  pub tree-end : restOf (restOf s) ≡ drop (afterTree s) s
+  tree-end =
+      let n = lengthAt (drop 5 s) in
+      let at : 5 + (3 + n) ≡ 8 + n = omega arith in
+      ap restOf sides-end ∙ drop-drop (3 + n) 5 s ∙ ap (λ n. drop n s) at
+
+  pub has-counts : hasCounts s ≡ eqb (getD (restOf (restOf s)) 0 0) 3
+  has-counts =
+      ap (λ n. eqb n 3)
+      (ap (λ n. getD s n 0) (sym (add-zero (afterTree s)))
+      ∙ sym (getD-drop (afterTree s) s 0 0)
+      ∙ ap (λ l. getD l 0 0) (sym tree-end))
 
 -- a coefficient of what was loaded is the one in its level's field
 pub loaded-coefficient : (s : List ℕ) (f : Loaded) → Accepted s f → (L a b : ℕ) → L < 4 → a < functions (f .W) L

@@ -1,7 +1,9 @@
 pub mod CountLaws
 pub mod ActiveLaws
+pub mod CountsField
 pub mod FileLaws
 pub mod LongLaws
 pub mod SavedLevels
 pub mod Saved
+pub mod CountsTold
 pub mod Theorems

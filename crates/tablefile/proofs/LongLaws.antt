@@ -1,9 +1,9 @@
 -- Input cut to its first n bytes is judged as the whole, where n is above what the fields can take.
 use mathlib.Core.Path.{_≡_, refl, sym, ap, ap₂, _∙_, subst}
-use mathlib.Core.Bool.{Bool, not, _&&_, and-false}
+use mathlib.Core.Bool.{Bool, true, false, not, _&&_, cond, and-false}
 use mathlib.Core.List.{List, [], _∷_}
 use Prim.Native.Nat.{ℕ, zero, suc, _+_, _-_, _*_, _≤_, _<_}
-use native.Mathlib.Nat.{le-refl, mul-le-mul, zero-add, suc-add}
+use native.Mathlib.Nat.{le-refl, zero-add, suc-add}
 use native.Mathlib.Decide.{decLt}
 use native.Mathlib.Omega.{arith}
 use lib.Dec.{leb, ltb, eqb}
@@ -11,17 +11,17 @@ use borrow.Author.Tests.{leb-true, lt-ltb, le-ltb, lt-leb}
 use lib.ListN.{length, getD, take, drop, length-take}
 use lib.Seq.{take-nil, getD-take, take-take}
 use Rattle.finite.proofs.Tests.{both}
-use Rattle.surface.specs.Sheet.{goodSide, functions}
+use Rattle.surface.specs.Sheet.{goodSide}
 use Rattle.surface.specs.Support.{activeCount}
 use Rattle.surface.specs.Table.{cause, _orElse_, treeOf, formed, levels, limit}
 use Rattle.surface.specs.Fields.{Judged, declined, contains, unless, Part, holds, inPart, lengthAt, field, checked}
 use Rattle.surface.specs.Fields.{allWithin}
-use Rattle.surface.specs.TableFile.{sidesIn, goodSides, sidesField, treeField, levelLoaded, levelField, levelFields}
-use Rattle.surface.specs.TableFile.{fileContents}
+use Rattle.surface.specs.TableFile.{sidesIn, goodSides, sidesField, treeField, countsAgree, countsField, levelLoaded}
+use Rattle.surface.specs.TableFile.{levelField, levelFields, fileContents}
 use Rattle.surface.proofs.TableLaws.{good-side}
 use Rattle.surface.proofs.Causes.{orElse-none, cause-none}
 use Rattle.fields.proofs.FieldLaws.{bodyOf, restOf, checked-accepted}
-use Rattle.tablefile.proofs.ActiveLaws.{active-count-le}
+use Rattle.tablefile.proofs.ActiveLaws.{active-square}
 
 -- ---- a list and its first n elements
 
@@ -183,33 +183,50 @@ module _ (W H : ℕ) (lev : ℕ → ℕ → ℕ) where
   levels-small hW hH =
       omega (
         arith,
-        level 0 11 (omega arith) (omega arith),
-        level 1 19 (omega arith) (omega arith),
-        level 2 35 (omega arith) (omega arith),
-        level 3 67 (omega arith) (omega arith),
+        active-square W H lev 0 11 (omega arith) (omega arith),
+        active-square W H lev 1 19 (omega arith) (omega arith),
+        active-square W H lev 2 35 (omega arith) (omega arith),
+        active-square W H lev 3 67 (omega arith) (omega arith),
       )
-    where
-      level : (L c : ℕ) → functions W L ≤ c → functions H L ≤ c → activeCount W H lev L ≤ c * c
-      level L c w h = omega (arith, active-count-le W H lev L, mul-le-mul h w)
+
+-- ---- the counts
+
+-- a field of 11 bytes, or none
+front-counts : (n : ℕ → ℕ) (k m : ℕ) (s : List ℕ) → 11 + k ≤ m
+    → Front k (countsField n (take m s)) (countsField n s)
+unfolding countsField
+front-counts n k m s h =
+    rw (getD-take m s 0 0 (omega arith)) (go (eqb (getD s 0 0) 3))
+  where
+    read : List ℕ → Judged (Part (List ℕ))
+    read s = checked (field 3 8 8 s) 20 (countsAgree n) (λ b. b)
+
+    go : (t : Bool) → Front k (cond t (read (take m s)) (holds [] (take m s))) (cond t (read s) (holds [] s))
+    go true = front-checked 3 8 8 m k s (omega arith) (λ fit. omega arith) 20 (countsAgree n) (λ b. b)
+    go false = (m, omega arith, refl)
 
 -- ---- the whole file
 
--- the fields of a file take at most 5, 1,368 and 30,992 bytes, and one more shows whether bytes follow them
-pub cut-contents : (s : List ℕ) (n : ℕ) → 32366 ≤ n → fileContents (take n s) ≡ fileContents s
+-- the fields of a file take at most 5, 1,368, 11 and 30,992 bytes, and one more shows whether bytes follow them
+pub cut-contents : (s : List ℕ) (n : ℕ) → 32377 ≤ n → fileContents (take n s) ≡ fileContents s
 unfolding fileContents sidesField treeField
 cut-contents s n h =
-    along _≡_ (λ n. refl) 32361 (sidesField (take n s)) (sidesField s)
-    (front-checked 1 2 2 n 32361 s (omega arith) (λ fit. omega arith) 1 (λ b. goodSides (sidesIn b)) sidesIn) _
+    along _≡_ (λ n. refl) 32372 (sidesField (take n s)) (sidesField s)
+    (front-checked 1 2 2 n 32372 s (omega arith) (λ fit. omega arith) 1 (λ b. goodSides (sidesIn b)) sidesIn) _
     λ sides rest j e l.
     let W = sides .W in
     let H = sides .H in
     let c = checked-accepted 1 2 2 0 (λ b. goodSides (sidesIn b)) sidesIn s sides rest e in
     let good = both (goodSide W) (goodSide H) (sym (ap goodSides (c .2)) ∙ c .1) in
-    along _≡_ (λ n. refl) 30993 (treeField W H (take j rest)) (treeField W H rest)
-    (front-checked 2 1 1365 j 30993 rest (omega arith) (λ fit. omega arith) 2 (λ t. formed W H (treeOf t)) (λ t. t)) _
+    along _≡_ (λ n. refl) 31004 (treeField W H (take j rest)) (treeField W H rest)
+    (front-checked 2 1 1365 j 31004 rest (omega arith) (λ fit. omega arith) 2 (λ t. formed W H (treeOf t)) (λ t. t)) _
     λ t rest2 j2 e2 l2.
     let small = levels-small W H (levels t) (good-side W (good .0) .1) (good-side H (good .1) .1) in
-    along _≡_ (λ n. refl) 1 (levelFields W H (levels t) 4 (take j2 rest2)) (levelFields W H (levels t) 4 rest2)
-    (front-levels W H (levels t) 4 1 j2 rest2 (omega arith)) _
-    λ cs rest3 j3 e3 l3.
-    ap (λ x. unless (cause 15 x) (contains (record { W = W; H = H; tree = t; numbers = cs }))) (cut-any j3 rest3 l3)
+    let active = activeCount W H (levels t) in
+    along _≡_ (λ n. refl) 30993 (countsField active (take j2 rest2)) (countsField active rest2)
+    (front-counts active 30993 j2 rest2 (omega arith)) _
+    λ counts rest3 j3 e3 l3.
+    along _≡_ (λ n. refl) 1 (levelFields W H (levels t) 4 (take j3 rest3)) (levelFields W H (levels t) 4 rest3)
+    (front-levels W H (levels t) 4 1 j3 rest3 (omega arith)) _
+    λ cs rest4 j4 e4 l4.
+    ap (λ x. unless (cause 15 x) (contains (record { W = W; H = H; tree = t; numbers = cs }))) (cut-any j4 rest4 l4)

@@ -1,13 +1,14 @@
--- The file of an acceptable table loads that table, and no other file does.
+-- The file of an acceptable table loads that table, and so does the same without the counts; no other file does.
 use mathlib.Core.Path.{_≡_, refl, sym, ap, ap₂, _∙_, subst}
-use mathlib.Core.Bool.{true, false}
+use mathlib.Core.Bool.{Bool, true, false, cond}
 use mathlib.Core.List.{List, [], _∷_, _++_, append-nil, append-assoc}
 use Prim.Native.Nat.{ℕ, zero, suc, _+_, _*_, _≤_, _<_}
-use native.Mathlib.Nat.{mul-comm, mul-le-mul, zero-add}
+use native.Mathlib.Nat.{mul-comm, zero-add}
 use native.Mathlib.Omega.{arith}
 use lib.IntN.{ℤ, pos}
 use lib.ListN.{length, getD, take, drop, length-append, length-drop, take-append-drop, drop-of-length-le}
-use lib.Seq.{length-take-le, getD-drop, getD-take, drop-drop, ext-getD}
+use lib.Dec.{eqb}
+use lib.Seq.{length-take-le, getD-drop, getD-take, take-at, drop-at, drop-drop, ext-getD}
 use Rattle.finite.specs.Range.{total, grid, joined}
 use Rattle.finite.proofs.Table.{length-grid, getD-grid, place-split}
 use Rattle.finite.proofs.Joined.{joined-length}
@@ -16,9 +17,9 @@ use Rattle.surface.specs.Sheet.{goodSide, functions}
 use Rattle.surface.specs.Quadtree.{Quadtree, bytes, wellFormed}
 use Rattle.surface.specs.Support.{activeCount}
 use Rattle.surface.specs.Table.{treeOf, formed, levels, start, slots, coefficients, sliceFrom, sliceOf, limit}
-use Rattle.surface.specs.Fields.{contains, holds, numberAt, allWithin, Bytes, fieldBytes}
-use Rattle.surface.specs.TableFile.{sidesIn, goodSides, sidesField, treeField, levelLoaded, levelField, levelFields}
-use Rattle.surface.specs.TableFile.{Loaded, fileContents, fileOf}
+use Rattle.surface.specs.Fields.{contains, holds, lengthAt, numberAt, allWithin, Bytes, fieldBytes}
+use Rattle.surface.specs.TableFile.{sidesIn, goodSides, sidesField, treeField, countsAgree, countsField, levelLoaded}
+use Rattle.surface.specs.TableFile.{levelField, levelFields, Loaded, fileContents, countsBody, fileWith, fileOf}
 use Rattle.surface.proofs.TreeForm.{AtLeaves, AtSplits, form-induction}
 use Rattle.surface.proofs.TreeBytes.{tree-length}
 use Rattle.surface.proofs.OneTree.{slice-bytes}
@@ -26,9 +27,13 @@ use Rattle.surface.proofs.TableLaws.{Formed, tree-formed, start-step, start-le,
 use Rattle.fields.proofs.FieldLaws.{bodyOf, restOf, body-length, body-bytes, rest-bytes, field-written}
 use Rattle.fields.proofs.FiveBytes.{numbers-determine}
 use Rattle.fields.proofs.Written.{nil-bytes, cons-bytes, append-bytes, joined-bytes, field-bytes, checked-read}
-use Rattle.tablefile.specs.Saved.{SavedLoads, SavedOfLoaded, LongestFile}
-use Rattle.tablefile.proofs.ActiveLaws.{active-place, active-count-le, loaded-active}
-use Rattle.tablefile.proofs.FileLaws.{after, levelsIn, Accepted, accepted, loaded-coefficient, accepted-sound}
+use Rattle.tablefile.specs.Counts.{afterTree, hasCounts, withCounts}
+use Rattle.tablefile.specs.Saved.{SavedLoads, LoadedIs, SavedOfLoaded, LongestFile}
+use Rattle.tablefile.proofs.ActiveLaws.{active-place, active-square, active-few, loaded-active}
+use Rattle.tablefile.proofs.CountsField.{past-bytes, counts-length, counts-bytes, counts-agree}
+use Rattle.tablefile.proofs.CountsField.{counts-written}
+use Rattle.tablefile.proofs.FileLaws.{after, levelsIn, Accepted, accepted, sides-end, has-counts}
+use Rattle.tablefile.proofs.FileLaws.{loaded-coefficient, accepted-sound}
 use Rattle.tablefile.proofs.SavedLevels.{level-length, level-bytes, level-number, level-loads, level-within}
 use Rattle.tablefile.proofs.SavedLevels.{level-small, savedBody}
 
@@ -99,6 +104,14 @@ tree-size W H t f =
 
 -- ---- the whole file
 
+-- The field of the counts, or none.
+abbrev countsPart : Bool → ℕ → ℕ → List ℕ → List ℕ
+countsPart counts W H t = cond counts (fieldBytes 3 (countsBody (activeCount W H (levels t)))) []
+
+-- two bytes spell a count
+counts-few : (W H : ℕ) (lev : ℕ → ℕ → ℕ) → W ≤ 8 → H ≤ 8 → (L : ℕ) → L < 4 → activeCount W H lev L < 65536
+counts-few W H lev hW hH L h = omega (arith, active-few W H lev L hW hH h)
+
 -- The field of a level.
 abbrev levelWritten : ℕ → ℕ → List ℕ → List ℤ → ℕ → List ℕ
 levelWritten W H t cs L = fieldBytes (16 + L) (savedBody W H t cs L)
@@ -128,41 +141,66 @@ module _ (W H : ℕ) (t : List ℕ) (cs : List ℤ) (ok : Sound W H t cs) where
   unfolding start
   own-numbers = own-slice W H cs (ok .size) 4 0 refl
 
-  file-read : fileContents (fileOf W H t cs) ≡ contains (record { W = W; H = H; tree = t; numbers = cs })
-  unfolding fileContents fileOf sidesField treeField
-  file-read =
+  -- the counts are read back; where none stand, the levels are due
+  counts-read : (counts : Bool) (rest : List ℕ)
+      → countsField (activeCount W H (levels t)) (countsPart counts W H t ++ (joined 4 written ++ rest))
+      ≡ holds (cond counts (countsBody (activeCount W H (levels t))) []) (joined 4 written ++ rest)
+  unfolding countsField joined
+  counts-read true rest =
+      let n = activeCount W H (levels t) in
+      let size = counts-length n in
+      checked-read 3 8 8 20 (countsAgree n) (λ b. b) (countsBody n) (joined 4 written ++ rest) (omega arith)
+      (omega arith) (omega arith) (counts-agree n (counts-few W H (levels t) (sides ok .1) (sides ok .3)))
+  counts-read false rest = refl
+
+  file-read : (counts : Bool)
+      → fileContents (fileWith counts W H t cs) ≡ contains (record { W = W; H = H; tree = t; numbers = cs })
+  unfolding fileContents fileWith sidesField treeField
+  file-read counts =
       let size = tree-size W H t (ok .tree) in
       let sheet = fieldBytes 1 (W ∷ H ∷ []) in
       let levelsPart = joined 4 written ++ [] in
-      let parts : (sheet ++ fieldBytes 2 t) ++ joined 4 written ≡ sheet ++ (fieldBytes 2 t ++ levelsPart) =
+      let countsLevels = countsPart counts W H t ++ levelsPart in
+      let parts : ((sheet ++ fieldBytes 2 t) ++ countsPart counts W H t) ++ joined 4 written
+      ≡ sheet ++ (fieldBytes 2 t ++ countsLevels) =
       simp (append-assoc, append-nil) in
       let good = and-intro (goodSide W) (goodSide H) (ok .side-W) (ok .side-H) in
       ap fileContents parts
       ∙ rw (
-        checked-read 1 2 2 1 (λ b. goodSides (sidesIn b)) sidesIn (W ∷ H ∷ []) (fieldBytes 2 t ++ levelsPart)
+        checked-read 1 2 2 1 (λ b. goodSides (sidesIn b)) sidesIn (W ∷ H ∷ []) (fieldBytes 2 t ++ countsLevels)
             (omega arith) (omega arith) (omega arith) good,
-        checked-read 2 1 1365 2 (λ t. formed W H (treeOf t)) (λ t. t) t levelsPart (omega arith) (size .0) (size .1)
+        checked-read 2 1 1365 2 (λ t. formed W H (treeOf t)) (λ t. t) t countsLevels (omega arith) (size .0) (size .1)
             (tree-formed W H t (ok .tree)),
+        counts-read counts [],
         levels-read 4 (omega arith) [],
         own-numbers,
       )
 
-  file-bytes : Bytes (fileOf W H t cs)
-  unfolding fileOf
-  file-bytes =
+  counts-part-bytes : (counts : Bool) → Bytes (countsPart counts W H t)
+  counts-part-bytes true =
+      field-bytes 3 (countsBody (activeCount W H (levels t))) (omega arith) (counts-bytes (activeCount W H (levels t)))
+  counts-part-bytes false = nil-bytes
+
+  file-bytes : (counts : Bool) → Bytes (fileWith counts W H t cs)
+  unfolding fileWith
+  file-bytes counts =
       let w = sides ok in
-      append-bytes (fieldBytes 1 (W ∷ H ∷ []) ++ fieldBytes 2 t) (joined 4 written)
+      let front = fieldBytes 1 (W ∷ H ∷ []) ++ fieldBytes 2 t in
+      append-bytes (front ++ countsPart counts W H t) (joined 4 written)
+      (append-bytes front (countsPart counts W H t)
       (append-bytes (fieldBytes 1 (W ∷ H ∷ [])) (fieldBytes 2 t)
       (field-bytes 1 (W ∷ H ∷ []) (omega arith)
       (cons-bytes W (H ∷ []) (omega arith) (cons-bytes H [] (omega arith) nil-bytes)))
       (field-bytes 2 t (omega arith) (tree-bytes W H t (ok .tree))))
+      (counts-part-bytes counts))
       (joined-bytes written 4
       λ L h. field-bytes (16 + L) (savedBody W H t cs L) (omega arith)
       (level-bytes W H (levels t) (coefficients W H cs) L))
 
 -- Loading the file of an acceptable table restores the table.
 pub saved-loads : SavedLoads
-saved-loads W H t cs e = (file-read W H t cs (sound W H t cs e), file-bytes W H t cs (sound W H t cs e))
+saved-loads counts W H t cs e =
+    (file-read W H t cs (sound W H t cs e) counts, file-bytes W H t cs (sound W H t cs e) counts)
 
 -- ---- the file of what was loaded
 
@@ -182,7 +220,8 @@ module _ (s : List ℕ) (bs : Bytes s) (f : Loaded) (r : Accepted s f) where
   saved = levelWritten (f .W) (f .H) (f .tree) (f .numbers)
 
   levels-bytes : (L : ℕ) → Bytes (after L (levelsIn s))
-  levels-bytes L = after-bytes L (levelsIn s) (rest-bytes (restOf s) (rest-bytes s bs))
+  levels-bytes L =
+      after-bytes L (levelsIn s) (past-bytes (restOf (restOf s)) (rest-bytes (restOf s) (rest-bytes s bs)))
 
   -- a level's numbers are those of its active functions, so its body is the one that is saved
   same-body : (L : ℕ) → L < 4 → bodyOf (after L (levelsIn s)) ≡ savedBody (f .W) (f .H) (f .tree) (f .numbers) L
@@ -214,22 +253,79 @@ module _ (s : List ℕ) (bs : Bytes s) (f : Loaded) (r : Accepted s f) where
       ∙ ap (λ b. fieldBytes (16 + n) b ++ rest) (same-body n h))
       ∙ sym (append-assoc (joined n saved) (saved n) rest)
 
-  file-saved : s ≡ fileOf (f .W) (f .H) (f .tree) (f .numbers)
-  unfolding fileOf
+  -- the counts are those that are saved
+  counts-saved : (t : Bool) → eqb (getD (restOf (restOf s)) 0 0) 3 ≡ t
+      → restOf (restOf s)
+      ≡ countsPart t (f .W) (f .H) (f .tree) ++ cond t (restOf (restOf (restOf s))) (restOf (restOf s))
+  counts-saved true e =
+      let x = restOf (restOf s) in
+      let bytes = rest-bytes (restOf s) (rest-bytes s bs) in
+      let w = sides (accepted-sound s f r) in
+      field-written 3 8 8 x bytes (r .counts e .field)
+      ∙ ap (λ b. fieldBytes 3 b ++ restOf x)
+      (counts-written (activeCount (f .W) (f .H) (levels (f .tree)))
+      (counts-few (f .W) (f .H) (levels (f .tree)) (w .1) (w .3)) x (body-bytes x bytes) (r .counts e))
+  counts-saved false e = refl
+
+  file-saved : s ≡ fileWith (hasCounts s) (f .W) (f .H) (f .tree) (f .numbers)
+  unfolding fileWith
   file-saved =
       let sheet = fieldBytes 1 (f .W ∷ f .H ∷ []) in
+      let counts = countsPart (eqb (getD (restOf (restOf s)) 0 0) 3) (f .W) (f .H) (f .tree) in
       field-written 1 2 2 s bs (r .sides)
       ∙ ap₂ (λ b l. fieldBytes 1 b ++ l)
       (two (bodyOf s) (body-length s (r .sides .whole) ∙ omega (arith, r .sides .long, r .sides .short))
       ∙ ap₂ (λ x y. x ∷ y ∷ []) (r .sideW) (r .sideH))
       (field-written 2 1 1365 (restOf s) (rest-bytes s bs) (r .tree)
       ∙ ap₂ (λ b l. fieldBytes 2 b ++ l) (r .treeBytes)
-      (levels-saved 4 (omega arith) ∙ ap (λ l. joined 4 saved ++ l) (r .end) ∙ append-nil (joined 4 saved)))
-      ∙ sym (append-assoc sheet (fieldBytes 2 (f .tree)) (joined 4 saved))
+      (counts-saved (eqb (getD (restOf (restOf s)) 0 0) 3) refl
+      ∙ ap (λ l. counts ++ l)
+      (levels-saved 4 (omega arith) ∙ ap (λ l. joined 4 saved ++ l) (r .end) ∙ append-nil (joined 4 saved))))
+      ∙ sym (append-assoc sheet (fieldBytes 2 (f .tree)) (counts ++ joined 4 saved))
+      ∙ sym (append-assoc (sheet ++ fieldBytes 2 (f .tree)) counts (joined 4 saved))
+      ∙ ap (λ t. fileWith t (f .W) (f .H) (f .tree) (f .numbers)) (sym (has-counts s f r))
 
--- Saving what was loaded from a file reproduces the file.
+  -- with the counts added where there are none
+  pub file-completed : fileOf (f .W) (f .H) (f .tree) (f .numbers)
+      ≡ withCounts (activeCount (f .W) (f .H) (levels (f .tree))) s
+  unfolding fileWith
+  file-completed = go (hasCounts s) file-saved
+    where
+      front : List ℕ
+      front = fieldBytes 1 (f .W ∷ f .H ∷ []) ++ fieldBytes 2 (f .tree)
+
+      field : List ℕ
+      field = fieldBytes 3 (countsBody (activeCount (f .W) (f .H) (levels (f .tree))))
+
+      at : length (front ++ []) ≡ afterTree s
+      at =
+          omega (
+            arith,
+            length-append front [],
+            length-append (fieldBytes 1 (f .W ∷ f .H ∷ [])) (fieldBytes 2 (f .tree)),
+            ap length (sym (r .treeBytes)),
+            body-length (restOf s) (r .tree .whole),
+            ap lengthAt (sides-end s f r),
+          )
+
+      go : (t : Bool) → s ≡ fileWith t (f .W) (f .H) (f .tree) (f .numbers)
+          → fileOf (f .W) (f .H) (f .tree) (f .numbers)
+          ≡ cond t s (take (afterTree s) s ++ field ++ drop (afterTree s) s)
+      go true e = sym e
+      go false e =
+          ap₂ (λ a b. (a ++ field) ++ b)
+          (sym (append-nil front)
+          ∙ sym (take-at (front ++ []) (joined 4 saved) (afterTree s) at)
+          ∙ ap (take (afterTree s)) (sym e))
+          (sym (drop-at (front ++ []) (joined 4 saved) (afterTree s) at) ∙ ap (drop (afterTree s)) (sym e))
+
+-- A file that is loaded is the one of what it loads.
+pub loaded-is : LoadedIs
+loaded-is s h f e = file-saved s h f (accepted s f e)
+
+-- Saving what was loaded from a file reproduces the file, with the counts added if it lacks them.
 pub saved-of-loaded : SavedOfLoaded
-saved-of-loaded s h f e = sym (file-saved s h f (accepted s f e))
+saved-of-loaded s h f e = file-completed s h f (accepted s f e)
 
 -- ---- the longest file
 
@@ -237,24 +333,22 @@ saved-of-loaded s h f e = sym (file-saved s h f (accepted s f e))
 field-short : (W H : ℕ) (t : List ℕ) (cs : List ℤ) (L n : ℕ) → functions W L ≤ n → functions H L ≤ n
     → length (levelWritten W H t cs L) ≤ 3 + 5 * (n * n)
 field-short W H t cs L n wide high =
-    omega (
-      arith,
-      level-length W H (levels t) (coefficients W H cs) L,
-      active-count-le W H (levels t) L,
-      mul-le-mul high wide,
-    )
+    omega (arith, level-length W H (levels t) (coefficients W H cs) L, active-square W H (levels t) L n wide high)
 
 pub longest-file : LongestFile
-unfolding fileOf total
+unfolding fileWith total
 longest-file W H t cs acc =
     let s = sound W H t cs acc in
     let w = sides s in
     let field : ℕ → List ℕ = λ L. levelWritten W H t cs L in
     let front = fieldBytes 1 (W ∷ H ∷ []) in
+    let counts = fieldBytes 3 (countsBody (activeCount W H (levels t))) in
     omega (
       arith,
-      length-append (front ++ fieldBytes 2 t) (joined 4 field),
+      length-append (front ++ fieldBytes 2 t ++ counts) (joined 4 field),
+      length-append (front ++ fieldBytes 2 t) counts,
       length-append front (fieldBytes 2 t),
+      counts-length (activeCount W H (levels t)),
       tree-size W H t (s .tree) .1,
       joined-length field 4,
       field-short W H t cs 0 11 (omega arith) (omega arith),

@@ -3,7 +3,7 @@ use mathlib.Core.Path.{_≡_, refl, sym, ap, _∙_, subst}
 use mathlib.Core.Bool.{Bool, true, false, cond}
 use mathlib.Core.List.{List, [], _++_}
 use Prim.Native.Nat.{ℕ, zero, suc, _+_, _*_, _^_, _≤_, _<_}
-use native.Mathlib.Nat.{mul-le-mul, pow-le-pow-right}
+use native.Mathlib.Nat.{pow-le-pow-right}
 use native.Mathlib.Decide.{decLt}
 use native.Mathlib.Omega.{arith}
 use lib.IntN.{ℤ, natAbs}
@@ -23,7 +23,7 @@ use Rattle.surface.specs.TableFile.{loaded, levelLoaded, placeBytes, rowBytes, 
 use Rattle.surface.proofs.TableLaws.{Sound, sides}
 use Rattle.fields.proofs.Written.{nil-bytes, joined-bytes, number-bytes, number-read}
 use Rattle.tablefile.proofs.CountLaws.{count-before}
-use Rattle.tablefile.proofs.ActiveLaws.{active-place, active-count-le, loaded-active, loaded-passive}
+use Rattle.tablefile.proofs.ActiveLaws.{active-place, active-few, loaded-active, loaded-passive}
 
 -- ---- lists one after the other
 
@@ -166,13 +166,8 @@ module _ (W H : ℕ) (t : List ℕ) (cs : List ℤ) (ok : Sound W H t cs) (L : �
   -- at most five bytes for each of 67 by 67 places
   pub level-small : length (savedBody W H t cs L) < 65536
   level-small =
-      let w = sides ok in
-      let scale : 2 ^ L ≤ 2 ^ 3 = pow-le-pow-right {n = 2} (omega arith) {i = L} {j = 3} (omega arith) in
-      let wide : functions W L ≤ 67 = omega (arith, mul-le-mul (w .1) scale) in
-      let high : functions H L ≤ 67 = omega (arith, mul-le-mul (w .3) scale) in
       omega (
         arith,
         level-length W H (levels t) (coefficients W H cs) L,
-        active-count-le W H (levels t) L,
-        mul-le-mul high wide,
+        active-few W H (levels t) L (sides ok .1) (sides ok .3) hL,
       )

@@ -1,5 +1,5 @@
--- The theorems about table files: an accepted file loads an acceptable table, no other file loads the same, and input
--- longer than any file is judged by its front.
+-- The theorems about table files: an accepted file loads an acceptable table, no other file loads the same unless one
+-- of the two lacks the counts, and input longer than any file is judged by its front.
 use mathlib.Core.Path.{_≡_, refl, sym, ap, _∙_, subst}
 use Prim.Native.Nat.{ℕ}
 use native.Mathlib.Omega.{arith}
@@ -8,13 +8,13 @@ use lib.Seq.{take-append-seam}
 use Rattle.surface.specs.Table.{_orElse_, slots, Acceptable}
 use Rattle.surface.specs.Calls.{gives, lengthCause, treeOutCause}
 use Rattle.surface.specs.Fields.{declined, contains}
-use Rattle.surface.specs.TableFile.{Loaded, File, fileContents, fileOutcomeOf, fileOutcome}
+use Rattle.surface.specs.TableFile.{Loaded, File, fileContents, fileOutcomeOf, fileOutcome, fileWith}
 use Rattle.surface.proofs.TableLaws.{acceptable}
 use Rattle.surface.proofs.RefusalLaws.{answer-gives}
 use Rattle.tablefile.specs.Files.{AcceptedIsAcceptable, LoadsAcceptable, OneFileEach, LongInput}
 use Rattle.tablefile.proofs.FileLaws.{accepted, accepted-sound}
 use Rattle.tablefile.proofs.LongLaws.{cut-contents}
-use Rattle.tablefile.proofs.Saved.{saved-of-loaded}
+use Rattle.tablefile.proofs.Saved.{loaded-is}
 
 -- ---- acceptable
 
@@ -43,13 +43,16 @@ loads-acceptable file treeOut numbersOut r e = go (fileContents file) (accepted-
 
 -- ---- one file
 
--- Two accepted files that load the same table are the same bytes.
+-- Two accepted files that load the same table, both with the counts or both without, are the same bytes.
 pub one-file-each : OneFileEach
-one-file-each s t bs bt f es et = sym (saved-of-loaded s bs f es) ∙ saved-of-loaded t bt f et
+one-file-each s t bs bt e f es et =
+    loaded-is s bs f es
+    ∙ ap (λ counts. fileWith counts (f .W) (f .H) (f .tree) (f .numbers)) e
+    ∙ sym (loaded-is t bt f et)
 
 -- ---- long input
 
--- Input longer than any file is judged by its first 32,366 bytes.
+-- Input longer than any file is judged by its first 32,377 bytes.
 pub long-input : LongInput
 unfolding fileOutcome
 long-input s n h treeOut numbersOut = ap (λ f. fileOutcomeOf f treeOut numbersOut) (cut-contents s n h)

@@ -1,20 +1,26 @@
 // Table files: their tags and sizes, and theorems about them: what is accepted is an acceptable table, one table has
-// one file, and input longer than any file is judged by its front.
+// one file with the counts and one without, and input longer than any file is judged by its front.
 
-// "tag 1, W and H, a byte each; tag 2, the tree; tags 16 to 19, the active coefficients of levels 0 to 3"
+// "tag 1, W and H, a byte each; tag 2, the tree; tags 16 to 19, the active coefficients of levels 0 to 3"; document 02:
+// "a field of tag 3 after tag 2, eight bytes"
 pub const SIDES_TAG: u8 = 1;
 
 pub const TREE_TAG: u8 = 2;
+
+pub const COUNTS_TAG: u8 = 3;
 
 pub const LEVEL_TAG: u8 = 16;
 
 pub const LEVELS: usize = 4;
 
-// The fields of a file: "all present".
-pub const FIELDS: usize = 2 + LEVELS;
+// The fields of a file: "all present"; "The writer always puts it", the one of the counts.
+pub const FIELDS: usize = 3 + LEVELS;
 
 // The bytes of the sides.
 pub const SIDES: usize = 2;
+
+// The bytes of the counts, two for each level.
+pub const COUNTS: usize = 2 * LEVELS;
 
 // "Tag 2's length is 1 to 1,365."
 pub const LONGEST_TREE: usize = 1365;

@@ -14,9 +14,8 @@ use Rattle.surface.specs.Table.{cause, _orElse_, levels, limit, tableCause}
 use Rattle.surface.specs.Calls.{indexFits, index, setCause}
 use Rattle.surface.proofs.Causes.{first, past}
 use Rattle.rows.specs.Rows.{levelsOf, levelRows}
-use Rattle.rows.proofs.RowLaws.{rows-nested}
+use Rattle.rows.proofs.RowLaws.{rows-nested, rows-least}
 use Rattle.coefficients.proofs.Sizes.{limit-below}
-use Rattle.table.proofs.CauseLaws.{rows-least}
 use Rattle.edit.proofs.SetLaws.{table-none}
 use Rattle.edit.proofs.set_cause.Statement.{statement}
 use Rattle.edit.proofs.set_cause.Tie as tie

@@ -1,4 +1,4 @@
--- Each way out of `read_file` gives the outcome of document 01.
+-- Each way out of `read_file` gives the defined outcome.
 use mathlib.Core.Path.{subst}
 use borrow.Author.Needs.{needs}
 use Rattle.loading.specs.Judged.{headJudged}
@@ -6,8 +6,8 @@ use Rattle.loading.proofs.ReadLaws.{read-declined}
 use Rattle.loading.proofs.read_file.Statement.{statement}
 use Rattle.loading.proofs.read_file.Tie as tie
 
-read-levels-requires : tie.Need-read-levels-requires
-read-levels-requires c κs =
+read-counted-requires : tie.Need-read-counted-requires
+read-counted-requires c κs =
     let k = c .before .before .before .before in
     let j = k .before .before in
     subst (λ r. headJudged r (j .before .before .before .before .args .file .now) (j .head-judge .last .1 .0))
@@ -24,5 +24,5 @@ returns c =
 pub read-file-spec : {M : Type 1} → statement M
 read-file-spec =
     tie.close
-    (tie.spec (λ c κs. search needs) (λ c. search needs) (λ c. search needs) read-levels-requires returns
+    (tie.spec (λ c κs. search needs) (λ c. search needs) (λ c. search needs) read-counted-requires returns
     (λ c. search needs) (λ c. search needs) (λ c. search needs))

@@ -15,10 +15,10 @@ use Rattle.surface.specs.Table.{levels, places, regionCause}
 use Rattle.surface.specs.Calls.{activityBytes, activityCause, activityOutcome}
 use Rattle.surface.proofs.Causes.{first, past}
 use Rattle.rows.specs.Rows.{levelRows}
-use Rattle.rows.proofs.RowLaws.{rows-nested}
+use Rattle.rows.proofs.RowLaws.{rows-nested, rows-least}
 use Rattle.activity.specs.Mark.{levelMarks, activeMark}
 use Rattle.answers.proofs.AnswerLaws.{slice-refused, slice-done}
-use Rattle.table.proofs.CauseLaws.{region-none, rows-least}
+use Rattle.table.proofs.CauseLaws.{region-none}
 use Rattle.query.proofs.activity_of.Statement.{statement}
 use Rattle.query.proofs.activity_of.Tie as tie
 

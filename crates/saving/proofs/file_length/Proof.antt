@@ -1,5 +1,5 @@
 -- `file_length` meets its contract: no sum is large.
-use Prim.Native.Nat.{_+_, _≤_}
+use Prim.Native.Nat.{_≤_}
 use native.Mathlib.Omega.{arith}
 use lib.Dec.{lit<}
 use lib.ListN.{getD}
@@ -26,12 +26,12 @@ add-active-3 c = omega (arith, few c)
 mul-result : tie.Need-mul-result
 mul-result c = omega (arith, few c)
 
-add-result-3 : tie.Need-add-result-3
-add-result-3 c = omega (arith, few c)
+add-result-4 : tie.Need-add-result-4
+add-result-4 c = omega (arith, few c)
 
 pub file-length-spec : {M : Type 1} → statement M
 file-length-spec =
     tie.close
     (tie.spec (λ c. search needs) (λ c. search needs) (λ c. search needs) add-active (λ c. search needs) add-active-2
-    (λ c. search needs) add-active-3 (λ c. search needs) (λ c. search needs) mul-result add-result-3
+    (λ c. search needs) add-active-3 (λ c. search needs) (λ c. search needs) (λ c. search needs) mul-result add-result-4
     (λ c. search needs))

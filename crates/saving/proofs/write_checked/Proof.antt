@@ -22,7 +22,7 @@ file s =
     fileUnder (a .w) (a .h) (a .tree .now) (levelsOf (a .rows .now)) (coefficients (a .w) (a .h) (a .numbers .now))
 
 file-length-requires : tie.Need-file-length-requires
-file-length-requires c κs = (c .before .before .before .pre .tree, λ L h. c .counts .ensures L h .1)
+file-length-requires c κs = (c .before .before .before .pre .tree, λ L h. c .active-counts .ensures L h .1)
 
 -- the length that was found is the file's
 found : (c : tie.After-file-length) → c .file-length .result ≡ length (file (c .before .before .before .before))
@@ -31,7 +31,7 @@ found c =
     let a = n .before .before .before .args in
     c .file-length .ensures
     ∙ sym (file-size (a .w) (a .h) (a .tree .now) (levelsOf (a .rows .now))
-    (coefficients (a .w) (a .h) (a .numbers .now)) (n .counts .result) (n .counts .ensures))
+    (coefficients (a .w) (a .h) (a .numbers .now)) (n .active-counts .result) (n .active-counts .ensures))
 
 returns : tie.Need-returns
 returns c =
@@ -44,7 +44,7 @@ put-file-requires : tie.Need-put-file-requires
 put-file-requires c κs =
     let length = c .before .before in
     let n = length .before in
-    (n .before .before .before .pre, n .counts .ensures, omega (arith, c .before .if1 .left, found length))
+    (n .before .before .before .pre, n .active-counts .ensures, omega (arith, c .before .if1 .left, found length))
 
 returns-2 : tie.Need-returns-2
 returns-2 c =

@@ -1,9 +1,9 @@
--- `counts` meets its contract, level by level.
-use Prim.Native.Nat.{ℕ, zero, suc}
+-- `active_counts` meets its contract, level by level.
+use Prim.Native.Nat.{zero, suc}
 use native.Mathlib.Omega.{arith}
 use borrow.Author.Needs.{needs}
-use Rattle.saving.proofs.levels.counts.Statement.{statement}
-use Rattle.saving.proofs.levels.counts.Tie as tie
+use Rattle.activity.proofs.count.active_counts.Statement.{statement}
+use Rattle.activity.proofs.count.active_counts.Tie as tie
 
 returns : tie.Need-returns
 returns c zero h = c .before .before .before .active-count .ensures
@@ -12,7 +12,7 @@ returns c (suc (suc zero)) h = c .before .active-count3 .ensures
 returns c (suc (suc (suc zero))) h = c .active-count4 .ensures
 returns c (suc (suc (suc (suc L)))) h = absurd (omega arith)
 
-pub counts-spec : {M : Type 1} → statement M
-counts-spec =
+pub active-counts-spec : {M : Type 1} → statement M
+active-counts-spec =
     tie.close
     (tie.spec (λ c κs. search needs) (λ c κs. search needs) (λ c κs. search needs) (λ c κs. search needs) returns)
