@@ -1,4 +1,5 @@
-/* Loads a table file, inserts a box, saves the finer table to another file, loads that one and reads the same figures.
+/* Loads a table file, inserts a box, saves the finer table to another file, reads off that one how many functions are
+   active, loads it and reads the same figures.
 
    cc -Iinclude examples/save.c target/staticlib/libkiln.a -o save
    ./save tables/kiln-unrefined.table finer.table */
@@ -45,6 +46,14 @@ static uint8_t show(const char *when, const struct kiln_table *table) {
   return refused;
 }
 
+/* Prints how many functions of each level are active, as the file says it. A file that was saved has these counts; one
+   of an earlier version may lack them. */
+static void show_counts(size_t length) {
+  size_t n[4];
+  if (!kiln_file_counts(file, length, n)) return;
+  printf("active: %zu of level 0, %zu of level 1, %zu of level 2, %zu of level 3\n", n[0], n[1], n[2], n[3]);
+}
+
 int main(int argc, char **argv) {
   const struct kiln_room room = {tree, KILN_TREE_BYTES, numbers, KILN_PLACES};
   const struct kiln_room finer_room = {finer_tree, KILN_TREE_BYTES, finer_numbers, KILN_PLACES};
@@ -65,6 +74,7 @@ int main(int argc, char **argv) {
     if (!put(argv[2], length)) return 255;
     printf("saved: %zu bytes\n", length);
     if (!get(argv[2], &length)) return 255;
+    show_counts(length);
     refused = kiln_table_read_file(file, length, room, &table);
   }
   if (!refused) refused = show("loaded again", &table);

@@ -39,7 +39,7 @@ extern "C" {
 
 /* The version of this header, which is that of the library it came with. The archive itself carries none. */
 #define KILN_VERSION_MAJOR 0
-#define KILN_VERSION_MINOR 2
+#define KILN_VERSION_MINOR 3
 #define KILN_VERSION_PATCH 0
 
 /* The table
@@ -91,7 +91,8 @@ enum kiln_refusal {
   KILN_FILE_GOES_ON = 15,
   KILN_OUTPUT_LENGTH = 16,
   KILN_TREE_OUTPUT_SHORT = 17,
-  KILN_FILE_OUTPUT_SHORT = 18
+  KILN_FILE_OUTPUT_SHORT = 18,
+  KILN_FILE_COUNT = 20  /* 19 is not given by this version */
 };
 
 /* What a call returned, in words; for every number, never NULL. */
@@ -116,6 +117,7 @@ static inline const char *kiln_refusal_words(uint8_t number) {
     case KILN_OUTPUT_LENGTH: return "numbers or activity output not of the exact length";
     case KILN_TREE_OUTPUT_SHORT: return "tree output shorter than the tree";
     case KILN_FILE_OUTPUT_SHORT: return "file output shorter than the file";
+    case KILN_FILE_COUNT: return "count in a file differs from the tree's";
     default: return "a cause that this version has no words for";
   }
 }
@@ -126,10 +128,10 @@ static inline const char *kiln_refusal_words(uint8_t number) {
 /* The places of an 8 by 8 sheet, the greatest number of coefficients. */
 #define KILN_PLACES 6196
 
-/* No file that is accepted or written is longer: the fields' heads, the sides, the longest tree and five bytes for each
-   place. A file output of this length is never too short. A longer file is refused with the same number when only its
-   first KILN_FILE_BYTES + 1 bytes are lent. */
-#define KILN_FILE_BYTES 32365
+/* No file that is accepted or written is longer: the fields' seven heads, the sides, the longest tree, eight bytes of
+   counts and five for each place. A file output of this length is never too short. A longer file is refused with the
+   same number when only its first KILN_FILE_BYTES + 1 bytes are lent. */
+#define KILN_FILE_BYTES 32376
 
 /* D = 36 * 2^42: an exact reading of x watts has the numerator x * D. */
 #define KILN_DENOMINATOR INT64_C(158329674399744)
@@ -152,6 +154,26 @@ static inline size_t kiln_places(size_t w, size_t h) {
    another number. */
 static inline size_t kiln_file_places(const uint8_t *file, size_t file_len) {
   return file_len < 5 ? 0 : kiln_places(file[3], file[4]);
+}
+
+/* How many functions of each level are active, as a table file says it, without loading the file. Returns 1 and writes
+   the counts of levels 0 to 3 where a field of tag 3 and length 8 stands whole after the tree's field of tag 2, which
+   starts at byte 5; else, as for a file without counts, returns 0 and writes nothing. Any bytes may be lent.
+
+   With n = 256*file[6] + file[7], the tree's length, file[8 + n] is 3 in a file that has counts, and the count of level
+   L is 256*file[11 + n + 2*L] + file[12 + n + 2*L].
+
+   This tells what the file says and judges nothing else of it. That the counts are those of the tree is known of a file
+   that kiln_read_file accepts, which refuses a wrong count with 20. */
+static inline int kiln_file_counts(const uint8_t *file, size_t file_len, size_t counts[4]) {
+  if (file_len < 8 || file[5] != 2) return 0;
+  size_t field = 8 + 256 * (size_t)file[6] + file[7];
+  if (file_len < field + 11 || file[field] != 3 || file[field + 1] != 0 || file[field + 2] != 8) return 0;
+  for (size_t level = 0; level < 4; level++) {
+    const uint8_t *count = file + field + 3 + 2 * level;
+    counts[level] = 256 * (size_t)count[0] + count[1];
+  }
+  return 1;
 }
 
 /* Judges a table: 0 for an acceptable one, else the lowest of the causes 1 to 5 that applies. Writes nothing.
@@ -274,8 +296,10 @@ uint8_t kiln_cost(size_t w, size_t h, const uint8_t *tree, size_t tree_len, cons
                   size_t numbers_len, size_t u, size_t v, size_t tariff, size_t *cost);
 
 /* Reads a table file. It has fields of a one-byte tag, a two-byte length (high byte first) and a body, in this order,
-   all present: tag 1, W and H, a byte each; tag 2, the tree; tags 16 to 19, the active coefficients of levels 0 to 3
-   in slice order, five bytes each, two's complement, high byte first. What is read is an acceptable table.
+   all present but tag 3's, which older files lack: tag 1, W and H, a byte each; tag 2, the tree; tag 3, how many
+   functions of levels 0 to 3 are active, two bytes each, high byte first, so of length 8; tags 16 to 19, the active
+   coefficients of levels 0 to 3 in slice order, five bytes each, two's complement, high byte first. What is read is an
+   acceptable table, the same with the counts as without them.
 
    file          the whole file, any bytes
    tree_out      receives the tree; as long as the tree or longer (KILN_TREE_BYTES always is), and what is past the
@@ -284,15 +308,17 @@ uint8_t kiln_cost(size_t w, size_t h, const uint8_t *tree, size_t tree_len, cons
    length        receives the tree's length
    w, h          receive the sheet's sides
 
-   Refusals: 1, 2, 4, 12 to 17, not the lowest but the first in byte order: for each field 12 for a head that is not
-   whole, 13, 14, 12 for a body that is not whole, then 1, 2 or 4 for its contents; after the last field 15, 16, 17. A
-   refusal leaves tree_out, numbers_out, length, w and h as they were. */
+   Refusals: 1, 2, 4, 12 to 17, 20, not the lowest but the first in byte order: for each field 12 for a head that is not
+   whole, 13, 14, 12 for a body that is not whole, then 1, 2, 20 or 4 for the contents of sides, tree, counts or
+   coefficients; after the last field 15, 16, 17. After the tree a tag of 3 or 16 is due, and 20 is for a count that is
+   not the tree's. A refusal leaves tree_out, numbers_out, length, w and h as they were. */
 uint8_t kiln_read_file(const uint8_t *file, size_t file_len, uint8_t *tree_out, size_t tree_out_len,
                        int64_t *numbers_out, size_t numbers_out_len, size_t *length, size_t *w, size_t *h);
 
-/* Writes the table file of a table, in the form that kiln_read_file has. Each acceptable table has one file: reading
-   what was written gives the same sides, tree and coefficients, and writing a table that was read gives the bytes of
-   the file that it was read from.
+/* Writes the table file of a table, in the form that kiln_read_file has, always with the counts of tag 3. Each
+   acceptable table has one such file: reading what was written gives the same sides, tree and coefficients, and writing
+   a table that was read gives the bytes of a file that had the counts, and of another one the same with the counts
+   added, 11 bytes more. kiln_file_counts tells the counts of what was written.
 
    w, h, tree, numbers   the table; it is not changed
    file_out              receives the file; as long as the file or longer (KILN_FILE_BYTES always is), and what is past

@@ -1,7 +1,8 @@
-//! Loads a table file, inserts a box, saves the finer table to another file, loads that one and reads the same figures.
+//! Loads a table file, inserts a box, saves the finer table to another file, reads off that one how many functions are
+//! active, loads it and reads the same figures.
 //!
 //!     cargo run --example save ../tables/kiln-unrefined.table finer.table
-use kiln::{Point, QuarterBox, Refusal, Table};
+use kiln::{file_counts, Point, QuarterBox, Refusal, Table};
 use std::error::Error;
 use std::fs;
 
@@ -21,6 +22,11 @@ fn main() -> Result<(), Box<dyn Error>> {
     let file = table.insert(QuarterBox::new(28, 4, 32, 8), 3)?.to_file();
     fs::write(&to, &file)?;
     println!("saved: {} bytes", file.len());
-    show("loaded again", &Table::from_file(&fs::read(&to)?)?)?;
+    let saved = fs::read(&to)?;
+    // A file that was saved has these counts; one of an earlier version may lack them.
+    if let Some([a, b, c, d]) = file_counts(&saved) {
+        println!("active: {a} of level 0, {b} of level 1, {c} of level 2, {d} of level 3");
+    }
+    show("loaded again", &Table::from_file(&saved)?)?;
     Ok(())
 }

@@ -224,21 +224,21 @@ mod tests {
         }
     }
 
-    // The file of a sheet of 1 by 1 has 101 bytes: the crate lends more for it, so only this shows the refusal.
+    // The file of a sheet of 1 by 1 has 112 bytes: the crate lends more for it, so only this shows the refusal.
     #[test]
     fn a_file_output_that_is_too_short_is_refused_and_left() {
         let numbers = [[5; 16].as_slice(), &[0; 195]].concat();
-        for lent in 0..=103 {
+        for lent in 0..=114 {
             let mut file = vec![9; lent];
             let saved = write_file([1, 1], &[0], &numbers, &mut file).map_err(NonZeroU8::get);
-            if lent < 101 {
+            if lent < 112 {
                 assert_eq!((saved, file), (Err(18), vec![9; lent]));
             } else {
-                assert_eq!((saved, file[98..101].to_vec()), (Ok(101), vec![19, 0, 0]));
-                assert!(file[101..].iter().all(|&byte| byte == 9));
+                assert_eq!((saved, file[109..112].to_vec()), (Ok(112), vec![19, 0, 0]));
+                assert!(file[112..].iter().all(|&byte| byte == 9));
             }
         }
         let over = [[32_001; 16].as_slice(), &[0; 195]].concat();
-        assert_eq!(write_file([1, 1], &[0], &over, &mut [9; 100]).map_err(NonZeroU8::get), Err(4));
+        assert_eq!(write_file([1, 1], &[0], &over, &mut [9; 111]).map_err(NonZeroU8::get), Err(4));
     }
 }

@@ -42,5 +42,5 @@ mod table;
 pub use around::ActiveFunction;
 pub use place::{Point, QuarterBox};
 pub use refusal::Refusal;
-pub use sizes::{level_places, place_of, places, DENOMINATOR, FILE_BYTES, TREE_BYTES};
+pub use sizes::{file_counts, level_places, place_of, places, DENOMINATOR, FILE_BYTES, TREE_BYTES};
 pub use table::{Least, Table};

@@ -41,8 +41,8 @@ macro_rules! refusals {
             ///
             /// assert_eq!(Refusal::of(12), Some(Refusal::FileEnds));
             /// assert_eq!(Refusal::of(0), None);
-            /// assert_eq!(Refusal::of(19), None);
-            /// assert!((1..=18).all(|n| Refusal::of(n).map(Refusal::number) == Some(n)));
+            /// assert_eq!(Refusal::of(19), None); // no refusal of this version
+            /// assert!((1..=18).chain([20]).all(|n| Refusal::of(n).map(Refusal::number) == Some(n)));
             /// ```
             pub fn of(number: u8) -> Option<Refusal> {
                 match number {
@@ -51,13 +51,14 @@ macro_rules! refusals {
                 }
             }
 
-            /// The refusal number, 1 to 18, or whatever a newer library gave.
+            /// The refusal number, 1 to 18 or 20, or whatever a newer library gave.
             ///
             /// ```
             /// use kiln::Refusal;
             ///
             /// assert_eq!(Refusal::Side.number(), 1);
             /// assert_eq!(Refusal::FileOutputShort.number(), 18);
+            /// assert_eq!(Refusal::FileCount.number(), 20);
             /// ```
             pub fn number(self) -> u8 {
                 match self {
@@ -100,6 +101,7 @@ refusals! {
     16 OutputLength "numbers or activity output not of the exact length"
     17 TreeOutputShort "tree output shorter than the tree"
     18 FileOutputShort "file output shorter than the file"
+    20 FileCount "count in a file differs from the tree's"
 }
 
 /// The refusal of any number that a call returned, [`Refusal::Unknown`] where it has no name here.
@@ -139,7 +141,7 @@ mod tests {
     use super::Refusal;
     use std::num::NonZeroU8;
 
-    // The first column of document 01's table of causes, in the order of its numbers, and document 02's words.
+    // The first column of document 01's table of causes, in the order of its numbers, and document 02's words for 18.
     const CAUSES: [&str; 18] = [
         "a side of 0 or above 8",
         "tree not of the form above",
@@ -161,15 +163,18 @@ mod tests {
         "file output shorter than the file",
     ];
 
+    // Document 02's words for 20. Its 19 is another request's, which this version does not have.
+    const COUNT_CAUSE: &str = "a count differs from the tree's";
+
     fn of_any(number: u8) -> Refusal {
         Refusal::from(NonZeroU8::new(number).unwrap())
     }
 
     #[test]
     fn each_number_has_the_words_of_its_cause() {
-        for (number, words) in (1..).zip(CAUSES) {
-            // Away from document 01's text, "above" says nothing.
-            let words = words.replace("form above", "form of a region tree");
+        for (number, words) in (1..).zip(CAUSES).chain([(20, COUNT_CAUSE)]) {
+            // Away from the documents' text, "above" and "a count" say too little.
+            let words = words.replace("form above", "form of a region tree").replace("a count", "count in a file");
             assert_eq!(Refusal::of(number).map(Refusal::words), Some(&words[..]));
             assert_eq!(of_any(number).to_string(), format!("refused {number}: {words}"));
             assert_eq!(format!("{:?}", of_any(number)), format!("refused {number}: {words}"));
@@ -178,7 +183,7 @@ mod tests {
 
     #[test]
     fn a_number_without_a_name_is_an_error_value() {
-        for number in 19..=u8::MAX {
+        for number in (19..=u8::MAX).filter(|&number| number != 20) {
             let refusal = of_any(number);
             assert_eq!(Refusal::of(number), None);
             assert_eq!(refusal, Refusal::Unknown { number });

@@ -1,4 +1,5 @@
-//! The library's fixed numbers, how long a table's slices are, and where in them a coefficient stands.
+//! The library's fixed numbers, how long a table's slices are, where in them a coefficient stands, and how many
+//! functions a file says are active.
 
 /// D = 36 × 2^42: an exact reading of x watts has the numerator x × D.
 ///
@@ -20,10 +21,10 @@ pub const TREE_BYTES: usize = 1_365;
 /// ```
 /// use kiln::{places, FILE_BYTES, TREE_BYTES};
 ///
-/// // Six heads of three bytes, two sides, the longest tree, five bytes for each place.
-/// assert_eq!(FILE_BYTES, 6 * 3 + 2 + TREE_BYTES + 5 * places(8, 8));
+/// // Seven heads of three bytes, two sides, the longest tree, four counts of two bytes, five bytes for each place.
+/// assert_eq!(FILE_BYTES, 7 * 3 + 2 + TREE_BYTES + 4 * 2 + 5 * places(8, 8));
 /// ```
-pub const FILE_BYTES: usize = 32_365;
+pub const FILE_BYTES: usize = 32_376;
 
 /// The places of one level of a `w` by `h` sheet; 0 for a side that is not 1 to 8 or a level that is not 0 to 3.
 ///
@@ -83,6 +84,43 @@ pub fn place_of(w: usize, h: usize, level: usize, i: i64, j: i64) -> Option<usiz
     let (row, rows) = ((w << level) + 3, (h << level) + 3);
     let (a, b) = (from_low_edge(i, row)?, from_low_edge(j, rows)?);
     Some((0..level).map(|coarser| level_places(w, h, coarser)).sum::<usize>() + b * row + a)
+}
+
+/// How many functions of levels 0 to 3 are active, as a table file says it, without loading the file: the numbers of
+/// its field of tag 3. `None` where no such field of length 8 stands whole after the tree's field of tag 2, as in a
+/// file without counts.
+///
+/// This tells what the file says and judges nothing else of it. That the counts are those of the tree is known of a
+/// file that [`Table::from_file`](crate::Table::from_file) loads.
+///
+/// ```
+/// use kiln::{file_counts, QuarterBox, Table};
+///
+/// let file = Table::fresh(2, 1, 0)?.insert(QuarterBox::new(0, 0, 4, 4), 1)?.to_file();
+/// assert_eq!(file_counts(&file), Some([16, 10, 0, 0]));
+///
+/// // A tree of 13 bytes from byte 8 on, then the counts' head and their eight bytes.
+/// assert_eq!(file[21..32], [3, 0, 8, 0, 16, 0, 10, 0, 0, 0, 0]);
+/// assert_eq!(file_counts(&file[..32]), Some([16, 10, 0, 0]));
+/// assert!((0..32).all(|cut| file_counts(&file[..cut]).is_none()));
+///
+/// // A file without counts, as earlier versions wrote it: the same table, which saving gives its counts.
+/// let older = [&file[..21], &file[32..]].concat();
+/// assert_eq!(file_counts(&older), None);
+/// assert_eq!(Table::from_file(&older)?.to_file(), file);
+/// # Ok::<(), kiln::Refusal>(())
+/// ```
+pub fn file_counts(file: &[u8]) -> Option<[usize; 4]> {
+    let number = |high, low| usize::from(u16::from_be_bytes([high, low]));
+    // The tree's field starts at byte 5.
+    let after_tree = match *file {
+        [_, _, _, _, _, 2, high, low, ref rest @ ..] => rest.get(number(high, low)..)?,
+        _ => return None,
+    };
+    match *after_tree {
+        [3, 0, 8, a, b, c, d, e, f, g, h, ..] => Some([number(a, b), number(c, d), number(e, f), number(g, h)]),
+        _ => None,
+    }
 }
 
 // How far an index is from -3, if it is one of `count`.

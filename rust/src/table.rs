@@ -74,13 +74,17 @@ impl Table {
 
     /// The table of a table file.
     ///
-    /// Refused: a file that is cut short, has another tag or length than the one due, goes on after its last field, or
-    /// has sides, a tree or coefficients that no acceptable table has; the first of these in byte order.
+    /// A file that lacks the counts of active functions, as earlier versions wrote it, makes the same table as one
+    /// that has them.
+    ///
+    /// Refused: a file that is cut short, has another tag or length than the one due, goes on after its last field,
+    /// has sides, a tree or coefficients that no acceptable table has, or counts that are not those of its tree; the
+    /// first of these in byte order.
     ///
     /// ```
     /// use kiln::{Point, Refusal, Table, DENOMINATOR};
     ///
-    /// // Columns of -1,000, 0, 1,000 and 2,000 watts on a sheet of 1 by 1.
+    /// // Columns of -1,000, 0, 1,000 and 2,000 watts on a sheet of 1 by 1, without counts.
     /// let mut file = vec![1, 0, 2, 1, 1, 2, 0, 1, 0, 16, 0, 80];
     /// for number in [-1_000_i64, 0, 1_000, 2_000].repeat(4) {
     ///     file.extend(&number.to_be_bytes()[3..]);
@@ -92,6 +96,12 @@ impl Table {
     /// // The corners that the corner program prints for it.
     /// assert_eq!(table.display(Point::new(0, 128))?, 0);
     /// assert_eq!(table.display(Point::new(128, 128))?, 1_000);
+    ///
+    /// // The counts, 16 of level 0 and no others, follow the tree.
+    /// let counted = |counts: [u8; 8]| [&file[..9], &[3, 0, 8], &counts, &file[9..]].concat();
+    /// assert_eq!(Table::from_file(&counted([0, 16, 0, 0, 0, 0, 0, 0]))?, table);
+    /// assert_eq!(Table::from_file(&counted([0, 15, 0, 0, 0, 0, 0, 0])), Err(Refusal::FileCount));
+    /// assert_eq!(Table::from_file(&counted([0, 16, 0, 0, 0, 0, 1, 0])), Err(Refusal::FileCount));
     ///
     /// let whole = file.len();
     /// assert!((0..whole).all(|cut| Table::from_file(&file[..cut]) == Err(Refusal::FileEnds)));
@@ -114,8 +124,10 @@ impl Table {
         Ok(Table { w, h, tree, numbers })
     }
 
-    /// The bytes of this table's file, of which [`from_file`](Table::from_file) makes the same table again. Each table
-    /// has one file, so saving a table that was loaded gives the bytes that it was loaded from. It is never refused.
+    /// The bytes of this table's file, of which [`from_file`](Table::from_file) makes the same table again. The file
+    /// has the counts of active functions, which [`file_counts`](crate::file_counts) reads off. Each table has one
+    /// such file, so saving a table that was loaded gives the bytes of a file that had the counts, and of another one
+    /// the same with the counts added, 11 bytes more. It is never refused.
     ///
     /// ```
     /// use kiln::{Point, QuarterBox, Table};
@@ -128,11 +140,12 @@ impl Table {
     /// assert_eq!(again.to_file(), file);
     /// assert_eq!(again.exact(Point::new(900, 200))?, table.exact(Point::new(900, 200))?);
     ///
-    /// // Sides, tree, then 16 coefficients of -1 watt, and none of levels 1 to 3.
+    /// // Sides, tree and counts, then 16 coefficients of -1 watt, and none of levels 1 to 3.
     /// let small = Table::fresh(1, 1, -1)?.to_file();
-    /// assert_eq!(small[..12], [1, 0, 2, 1, 1, 2, 0, 1, 0, 16, 0, 80]);
-    /// assert_eq!(small[12..92], [0xff; 80]);
-    /// assert_eq!(small[92..], [17, 0, 0, 18, 0, 0, 19, 0, 0]);
+    /// assert_eq!(small[..9], [1, 0, 2, 1, 1, 2, 0, 1, 0]);
+    /// assert_eq!(small[9..23], [3, 0, 8, 0, 16, 0, 0, 0, 0, 0, 0, 16, 0, 80]);
+    /// assert_eq!(small[23..103], [0xff; 80]);
+    /// assert_eq!(small[103..], [17, 0, 0, 18, 0, 0, 19, 0, 0]);
     /// # Ok::<(), kiln::Refusal>(())
     /// ```
     pub fn to_file(&self) -> Vec<u8> {

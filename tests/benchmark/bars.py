@@ -6,7 +6,8 @@ from __future__ import annotations
 
 from typing import Callable, Dict, List, NamedTuple
 
-from measure import BEYOND, CALLS, LARGEST, LARGEST_FILE, READINGS, UNREFINED, Figures, calls_on, counted_on
+from measure import BEYOND, LARGEST, LARGEST_FILE, MEASURED, READ, READ_UNCOUNTED, READINGS, UNREFINED, Figures
+from measure import calls_on, counted_on
 
 RATIO = 1.35
 RATIO_OF_WRITING = 1.2
@@ -15,6 +16,17 @@ CHECK_UNREFINED = 64_000
 INSERTION = 450_000
 FILE_READING = 290_000
 FILE_WRITING = 500_000
+# What file reading took before files had counts, of the file of each table, which had none.
+READ_BEFORE_COUNTS = {
+    "1 by 1, unrefined": 6_059,
+    "1 by 1, fully split": 8_659,
+    "4 by 4, unrefined": 16_156,
+    "4 by 4, fully split": 33_675,
+    "8 by 8, unrefined": 31_951,
+    "8 by 8, fully split": 93_298,
+    "8 by 8, all of level 3": 220_558,
+}
+MORE_FOR_COUNTS = 1_000
 READING_BEYOND_CHECK = 6_000
 READING = CHECK + READING_BEYOND_CHECK
 STACK = 8_192
@@ -31,13 +43,20 @@ class Bar(NamedTuple):
 
 def ratios(asked: Callable[[str], bool]) -> Callable[[Figures], Dict[str, float]]:
     """The instructions over those of the C program, on each table, of the calls that are asked for."""
-    return lambda figures: {f"{CALLS.get(call, call)}, {table}": ours.counts[call] / figures.plain[table].counts[call]
-                            for table, ours in figures.library.items() for call in counted_on(table) if asked(call)}
+    return lambda figures: {
+        f"{MEASURED.get(call, call)}, {table}": ours.counts[call] / figures.plain[table].counts[call]
+        for table, ours in figures.library.items() for call in counted_on(table) if asked(call)}
 
 
 def counts(table: str, *calls: str) -> Callable[[Figures], Dict[str, float]]:
     """The instructions of calls on one table."""
-    return lambda figures: {f"{CALLS[call]}, {table}": figures.library[table].counts[call] for call in calls}
+    return lambda figures: {f"{MEASURED[call]}, {table}": figures.library[table].counts[call] for call in calls}
+
+
+def more_for_counts(figures: Figures) -> Dict[str, float]:
+    """The instructions of file reading beyond those before files had counts: of files with counts and without."""
+    return {f"{MEASURED[call]}, {table}": ours.counts[call] - READ_BEFORE_COUNTS[table]
+            for table, ours in figures.library.items() for call in (READ, READ_UNCOUNTED)}
 
 
 def beyond(figures: Figures) -> Dict[str, float]:
@@ -45,12 +64,12 @@ def beyond(figures: Figures) -> Dict[str, float]:
 
 
 def stacks(figures: Figures) -> Dict[str, float]:
-    return {f"{CALLS[call]}, {table}": ours.stacks[call]
+    return {f"{MEASURED[call]}, {table}": ours.stacks[call]
             for table, ours in figures.library.items() for call in calls_on(table)}
 
 
 def corners(figures: Figures) -> Dict[str, float]:
-    return {LARGEST_FILE: figures.corners / figures.library[LARGEST_FILE].counts["read_file"]}
+    return {LARGEST_FILE: figures.corners / figures.library[LARGEST_FILE].counts[READ]}
 
 
 BARS = {
@@ -63,7 +82,10 @@ BARS = {
                      counts(UNREFINED, "table_cause")),
     "reading": Bar(f"instructions of a reading, {LARGEST}", READING, counts(LARGEST, *READINGS)),
     "insertion": Bar(f"instructions of an insertion, {LARGEST}", INSERTION, counts(LARGEST, "insert")),
-    "file reading": Bar("instructions of reading the largest file", FILE_READING, counts(LARGEST_FILE, "read_file")),
+    "file reading": Bar("instructions of reading the largest file", FILE_READING,
+                        counts(LARGEST_FILE, READ, READ_UNCOUNTED)),
+    "counts": Bar("instructions of file reading beyond those before files had counts, of a file with them or without",
+                  MORE_FOR_COUNTS, more_for_counts),
     "file writing": Bar("instructions of writing the largest file", FILE_WRITING, counts(LARGEST_FILE, "write_file")),
     "beyond": Bar("instructions of an exact reading beyond the table check", READING_BEYOND_CHECK, beyond),
     "stack": Bar("bytes of stack of a call", STACK, stacks),

@@ -1,7 +1,7 @@
-/* Makes each call once on a table and its file, given on standard input: of the library (PREFIX kiln_) or of plain C
-   (plain_). Run as `bench count` under callgrind it leaves one dump for each call, named like it; run as `bench stack`
-   it prints the bytes of stack of each call, as `bench time` the nanoseconds of each call. With names of calls after
-   that it makes those calls only. */
+/* Makes each call once on a table and its two files, with counts and without, given on standard input: of the library
+   (PREFIX kiln_) or of plain C (plain_). Run as `bench count` under callgrind it leaves one dump for each call, named
+   like it; run as `bench stack` it prints the bytes of stack of each call, as `bench time` the nanoseconds of each
+   call. With names of calls after that it makes those calls only. */
 #include "plain.h"
 
 #include <pthread.h>
@@ -12,8 +12,8 @@
 #include <time.h>
 #include <valgrind/callgrind.h>
 
-static size_t w, h, tree_len, numbers_len, file_len;
-static uint8_t tree[1365], out[4489], tree_out[1365], file[32365], file_out[32365];
+static size_t w, h, tree_len, numbers_len, file_len, uncounted_len;
+static uint8_t tree[1365], out[4489], tree_out[1365], file[32376], uncounted[32365], file_out[32376];
 static int64_t numbers[6196], numbers_out[6196];
 
 /* What the calls give beside a refusal number. */
@@ -73,6 +73,11 @@ static unsigned read_file(void) {
   return CALL(read_file)(file, file_len, tree_out, sizeof tree_out, numbers_out, numbers_len, &amount, &wide, &high);
 }
 
+static unsigned read_uncounted(void) {
+  return CALL(read_file)(uncounted, uncounted_len, tree_out, sizeof tree_out, numbers_out, numbers_len, &amount, &wide,
+                         &high);
+}
+
 static unsigned write_file(void) {
   return CALL(write_file)(w, h, tree, tree_len, numbers, numbers_len, file_out, sizeof file_out, &amount);
 }
@@ -86,7 +91,7 @@ static const struct call calls[] = {
   {"nothing", nothing}, {"table_cause", table_cause}, {"least_level", least_level}, {"activity", activity},
   {"fresh", fresh}, {"set", set},
   {"insert", insert}, {"exact", exact}, {"watts", watts}, {"display", display}, {"cost", cost},
-  {"read_file", read_file}, {"write_file", write_file},
+  {"read_file", read_file}, {"read_uncounted", read_uncounted}, {"write_file", write_file},
 };
 
 enum { CALLS = sizeof calls / sizeof *calls, DEPTH = 1 << 17, UNUSED = 0xA5 };
@@ -165,14 +170,19 @@ static bool get_bytes(uint8_t *to, size_t n) {
   return true;
 }
 
-/* Reads the table and its file. */
+/* Reads a file that has so many bytes at most: its length, then its bytes. */
+static bool get_file(uint8_t *to, size_t most, size_t *n) {
+  return scanf("%zu", n) == 1 && *n <= most && get_bytes(to, *n);
+}
+
+/* Reads the table and its files. */
 static bool get_input(void) {
   if (scanf("%zu %zu %zu", &w, &h, &tree_len) != 3 || tree_len > sizeof tree) return false;
   if (!get_bytes(tree, tree_len)) return false;
   if (scanf("%zu", &numbers_len) != 1 || numbers_len > sizeof numbers / sizeof *numbers) return false;
   for (size_t i = 0; i < numbers_len; i++)
     if (scanf("%ld", &numbers[i]) != 1) return false;
-  return scanf("%zu", &file_len) == 1 && file_len <= sizeof file && get_bytes(file, file_len);
+  return get_file(file, sizeof file, &file_len) && get_file(uncounted, sizeof uncounted, &uncounted_len);
 }
 
 int main(int argc, char **argv) {

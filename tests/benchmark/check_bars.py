@@ -14,12 +14,13 @@ from typing import Callable, Iterator, List, Tuple
 sys.dont_write_bytecode = True
 
 import bars
-from measure import BEYOND, CALLS, LARGEST, LARGEST_FILE, READINGS, UNREFINED, ROOT, Figures, Measured
-from measure import all_figures, calls_on, counted_on, table_names
+from measure import BEYOND, CALLS, LARGEST, LARGEST_FILE, MEASURED, READ, READ_UNCOUNTED, READINGS, UNREFINED, ROOT
+from measure import Figures, Measured, all_figures, calls_on, counted_on, table_names
 
 PAGE, HEADER = ROOT / "docs/BENCHMARKS.md", ROOT / "include/kiln.h"
-# The bar's name, where its figure is taken, and made-up figures of which that one is so far past the bar.
-Push = Tuple[str, str, Callable[[int], Figures]]
+# The bar's name, where its figure is taken, made-up figures of which that one is so far past the bar, and the names of
+# lower bars of the same figure, which it is past by then.
+Push = Tuple[str, str, Callable[[int], Figures], Tuple[str, ...]]
 
 
 def made_up(table: str = "", call: str = "", ours: int = 100, theirs: int = 100, stack: int = 100,
@@ -55,32 +56,44 @@ def pushes() -> Iterator[Push]:
     for table in table_names():
         for call in calls_on(table):
             name, bar = ("ratio of writing", bars.RATIO_OF_WRITING) if call == "write_file" else ("ratio", bars.RATIO)
-            yield name, f"{CALLS[call]}, {table}", partial(by_ratio, table, call, bar)
-            yield "stack", f"{CALLS[call]}, {table}", partial(by_stack, table, call)
+            yield name, f"{MEASURED[call]}, {table}", partial(by_ratio, table, call, bar), ()
+            yield "stack", f"{MEASURED[call]}, {table}", partial(by_stack, table, call), ()
+        for call in (READ, READ_UNCOUNTED):
+            bar = bars.READ_BEFORE_COUNTS[table] + bars.MORE_FOR_COUNTS
+            yield "counts", f"{MEASURED[call]}, {table}", partial(by_count, table, call, bar), ()
         if BEYOND in counted_on(table):
-            yield "ratio", f"{BEYOND}, {table}", partial(by_ratio, table, BEYOND, bars.RATIO)
-            yield "beyond", table, partial(by_count, table, BEYOND, bars.READING_BEYOND_CHECK)
+            yield "ratio", f"{BEYOND}, {table}", partial(by_ratio, table, BEYOND, bars.RATIO), ()
+            yield "beyond", table, partial(by_count, table, BEYOND, bars.READING_BEYOND_CHECK), ()
     for name, table, call, bar in (
             ("check", LARGEST, "table_cause", bars.CHECK),
             ("unrefined", UNREFINED, "table_cause", bars.CHECK_UNREFINED),
             *(("reading", LARGEST, call, bars.READING) for call in READINGS),
             ("insertion", LARGEST, "insert", bars.INSERTION),
-            ("file reading", LARGEST_FILE, "read_file", bars.FILE_READING),
+            *(("file reading", LARGEST_FILE, call, bars.FILE_READING) for call in (READ, READ_UNCOUNTED)),
             ("file writing", LARGEST_FILE, "write_file", bars.FILE_WRITING)):
-        yield name, f"{CALLS[call]}, {table}", partial(by_count, table, call, bar)
-    yield "corners", LARGEST_FILE, by_corners
+        lower = ("counts",) if name == "file reading" else ()
+        yield name, f"{MEASURED[call]}, {table}", partial(by_count, table, call, bar), lower
+    yield "corners", LARGEST_FILE, by_corners, ()
+
+
+def told_otherwise(figures: Figures, names: Tuple[str, ...], where: str) -> List[str]:
+    """What is told of figures, where that is anything but a line for each of these bars that names it and the place."""
+    lines = bars.missed(figures)
+    due = [f"{bars.BARS[name].what}: {where}: " for name in names]
+    same = len(lines) == len(due) and all(any(line.startswith(one) for line in lines) for one in due)
+    return [] if same else lines or ["nothing"]
 
 
 def self_test() -> List[str]:
-    """Faults of the comparison: at a bar nothing is told, just past it one line that names the bar and the place."""
+    """Faults of the comparison: at a bar nothing is told of it, just past it one line that names the bar and the
+    place."""
     faults, tried = [], []
-    for name, where, figures in pushes():
+    for name, where, figures, lower in pushes():
         tried.append(name)
-        if bars.missed(figures(0)):
-            faults.append(f"self test: {name}, {where}: a figure at the bar is told")
-        lines = bars.missed(figures(1))
-        if len(lines) != 1 or not lines[0].startswith(f"{bars.BARS[name].what}: {where}: "):
-            faults.append(f"self test: {name}, {where}: a figure past the bar is told as {lines}")
+        for past, names in ((0, lower), (1, (*lower, name))):
+            lines = told_otherwise(figures(past), names, where)
+            if lines:
+                faults.append(f"self test: {name}, {where}: a figure {past} past the bar is told as {lines}")
     faults += [f"self test: {name}: no figure was put past this bar" for name in bars.BARS if name not in tried]
     if len(tried) != bars.compared(made_up()):
         faults.append(f"self test: {len(tried)} figures were put past a bar, {bars.compared(made_up())} are compared")
@@ -91,7 +104,7 @@ def self_test() -> List[str]:
                 del getattr(figures.library[table], part)[call]
                 try:
                     bars.missed(figures)
-                    faults.append(f"self test: {CALLS[call]}, {table}: nobody misses its {part}")
+                    faults.append(f"self test: {MEASURED[call]}, {table}: nobody misses its {part}")
                 except KeyError:
                     pass
     return faults

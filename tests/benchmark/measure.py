@@ -27,6 +27,10 @@ from surface import total_places
 READINGS = {"exact": "Exact reading", "watts": "Reading as f64", "display": "Display", "cost": "Cost"}
 CALLS = {"table_cause": "Table check", "least_level": "Least level", "activity": "Activity", "fresh": "Fresh table",
          "set": "Set", "insert": "Insertion", **READINGS, "read_file": "File reading", "write_file": "File writing"}
+# What is measured: each call, and file reading of the file without counts too.
+READ, READ_UNCOUNTED = "read_file", "read_uncounted"
+MEASURED = {**CALLS, READ_UNCOUNTED: "File reading, without counts"}
+OF_FILES = (READ, READ_UNCOUNTED, "write_file")
 BEYOND = "Exact reading beyond the table check"
 SIZES, TURNS = (1, 4, 8), 3
 LARGEST, UNREFINED, LARGEST_FILE = "8 by 8, fully split", "8 by 8, unrefined", "8 by 8, all of level 3"
@@ -75,7 +79,7 @@ def table_names() -> Tuple[str, ...]:
 
 def calls_on(table: str) -> Tuple[str, ...]:
     """The calls that are measured on a table: of that of the largest file only file reading and writing."""
-    return ("read_file", "write_file") if table == LARGEST_FILE else tuple(CALLS)
+    return OF_FILES if table == LARGEST_FILE else tuple(MEASURED)
 
 
 def counted_on(table: str) -> Tuple[str, ...]:
@@ -83,10 +87,16 @@ def counted_on(table: str) -> Tuple[str, ...]:
     return calls_on(table) + (() if table == LARGEST_FILE else (BEYOND,))
 
 
+def file_of(t: samples.Table, call: str) -> bytes:
+    """The file that a call of files reads or writes."""
+    return tablefile.write_file(*t, counted=call != READ_UNCOUNTED)
+
+
 def told(t: samples.Table) -> str:
-    """A table and its file, as the program reads them."""
-    file = tablefile.write_file(*t)
-    return " ".join(map(str, [t.w, t.h, len(t.tree), *t.tree, len(t.coefficients), *t.coefficients, len(file), *file]))
+    """A table and its files, with counts and without, as the program reads them."""
+    files = [file_of(t, call) for call in (READ, READ_UNCOUNTED)]
+    return " ".join(map(str, [t.w, t.h, len(t.tree), *t.tree, len(t.coefficients), *t.coefficients,
+                              *(part for file in files for part in (len(file), *file))]))
 
 
 def built(name: str, *given: str) -> str:
@@ -140,8 +150,7 @@ def corners(t: samples.Table) -> int:
     """The instructions of the corner program on the file of a table, from start to end."""
     with tempfile.TemporaryDirectory() as room:
         command = [which("valgrind"), "--tool=callgrind", f"--callgrind-out-file={room}/out", str(corner_program())]
-        run = subprocess.run(command, cwd=ROOT, input=tablefile.write_file(*t), capture_output=True, check=True,
-                             env=NO_REP)
+        run = subprocess.run(command, cwd=ROOT, input=file_of(t, READ), capture_output=True, check=True, env=NO_REP)
     return int(re.search(rb"refs:\s+([\d,]+)", run.stderr).group(1).replace(b",", b""))
 
 

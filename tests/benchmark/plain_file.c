@@ -40,7 +40,8 @@ static inline size_t count_word(uint64_t word, size_t e, size_t n) {
   return (size_t)__builtin_popcountll(word & every[e] & (((uint64_t)1 << n * e) - 1));
 }
 
-size_t active_count(const struct regions *regions, size_t w, size_t h, size_t level) {
+/* How many functions of a level are active. */
+static size_t active_count(const struct regions *regions, size_t w, size_t h, size_t level) {
   size_t n = functions(w, level), m = functions(h, level), found = 0;
   for (size_t b = 0; b < m; b++) {
     struct marks row = active_row(regions, w, h, level, b);
@@ -49,10 +50,27 @@ size_t active_count(const struct regions *regions, size_t w, size_t h, size_t le
   return found;
 }
 
+void count_active(const struct regions *regions, size_t w, size_t h, size_t counts[LEVELS]) {
+  for (size_t level = 0; level < LEVELS; level++) counts[level] = active_count(regions, w, h, level);
+}
+
+/* The counts' field, which may stand at a position, and its four counts, two bytes each, high byte first: `end`
+   receives the position after it, or this one where another tag stands here. */
+static uint8_t judge_counts(const struct file *file, size_t at, const size_t counts[LEVELS], size_t *end) {
+  *end = at;
+  if (file->len - at < HEAD) return FILE_ENDS;
+  if (file->bytes[at] != TAG_COUNTS) return 0;
+  uint8_t cause = field_at(file, at, TAG_COUNTS, COUNTS_BYTES, COUNTS_BYTES, end);
+  if (cause) return cause;
+  const uint8_t *body = file->bytes + at + HEAD;
+  for (size_t level = 0; level < LEVELS; level++)
+    if (((size_t)body[2 * level] << 8 | body[2 * level + 1]) != counts[level]) return BAD_COUNT;
+  return 0;
+}
+
 /* The field of a level at a position, and the limit of the coefficients in it. */
-static uint8_t judge_level(const struct file *file, size_t at, const struct regions *regions, size_t w, size_t h,
-                           size_t level, size_t *end) {
-  size_t count = active_count(regions, w, h, level), n = NUMBER_BYTES * count;
+static uint8_t judge_level(const struct file *file, size_t at, size_t count, size_t level, size_t *end) {
+  size_t n = NUMBER_BYTES * count;
   uint8_t cause = field_at(file, at, (uint8_t)(TAG_LEVEL_0 + level), n, n, end);
   if (cause) return cause;
   const uint8_t *body = file->bytes + at + HEAD;
@@ -61,17 +79,22 @@ static uint8_t judge_level(const struct file *file, size_t at, const struct regi
   return 0;
 }
 
-/* All fields in byte order: the regions, and the positions after the tree's field and after the last. */
-static uint8_t judge(const struct file *file, struct regions *regions, size_t *tree_end, size_t *last) {
+/* All fields in byte order: the regions, and the positions after the tree's field, of the first level's and after the
+   last. The active functions are counted once, for the counts' field and for the levels' lengths. */
+static uint8_t judge(const struct file *file, struct regions *regions, size_t *tree_end, size_t *levels_at,
+                     size_t *last) {
+  size_t counts[LEVELS];
   uint8_t cause = field_at(file, 0, TAG_SIDES, SIDES_BYTES, SIDES_BYTES, last);
   if (cause) return cause;
   size_t w = file->bytes[HEAD], h = file->bytes[HEAD + 1];
   if (!good_sides(w, h)) return BAD_SIDE;
   if ((cause = field_at(file, TREE_AT, TAG_TREE, 1, TREE_MAX, tree_end))) return cause;
   if ((cause = region_cause(w, h, file->bytes + TREE_BODY, *tree_end - TREE_BODY, regions))) return cause;
-  *last = *tree_end;
+  count_active(regions, w, h, counts);
+  if ((cause = judge_counts(file, *tree_end, counts, levels_at))) return cause;
+  *last = *levels_at;
   for (size_t level = 0; level < LEVELS; level++)
-    if ((cause = judge_level(file, *last, regions, w, h, level, last))) return cause;
+    if ((cause = judge_level(file, *last, counts[level], level, last))) return cause;
   return 0;
 }
 
@@ -109,15 +132,15 @@ uint8_t plain_read_file(const uint8_t *bytes, size_t len, uint8_t *tree_out, siz
                         size_t numbers_out_len, size_t *length, size_t *w, size_t *h) {
   struct file file = {bytes, len};
   struct regions regions;
-  size_t tree_end, last;
-  uint8_t cause = judge(&file, &regions, &tree_end, &last);
+  size_t tree_end, levels_at, last;
+  uint8_t cause = judge(&file, &regions, &tree_end, &levels_at, &last);
   if (cause) return cause;
   size_t wide = bytes[HEAD], high = bytes[HEAD + 1], n = tree_end - TREE_BODY;
   if (last < len) return BYTES_AFTER;
   if (numbers_out_len != start(wide, high, LEVELS)) return BAD_OUTPUT;
   if (tree_out_len < n) return TREE_OUTPUT_SHORT;
   memcpy(tree_out, bytes + TREE_BODY, n);
-  for (size_t level = 0, at = tree_end; level < LEVELS; level++) {
+  for (size_t level = 0, at = levels_at; level < LEVELS; level++) {
     size_t body = length_at(bytes + at);
     load_level(bytes + at + HEAD, body, &regions, wide, high, level, numbers_out + start(wide, high, level));
     at += HEAD + body;

@@ -10,14 +10,16 @@
 /* Refusal numbers of documents 01 and 02. */
 enum {
   BAD_SIDE = 1, BAD_TREE, BAD_LENGTH, OVER_LIMIT, PASSIVE_NOT_0, OFF_SHEET, BAD_BOX, BAD_LEVEL, NOT_ACTIVE, BAD_NUMBER,
-  BAD_TARIFF, FILE_ENDS, BAD_TAG, BAD_FIELD, BYTES_AFTER, BAD_OUTPUT, TREE_OUTPUT_SHORT, FILE_OUTPUT_SHORT
+  BAD_TARIFF, FILE_ENDS, BAD_TAG, BAD_FIELD, BYTES_AFTER, BAD_OUTPUT, TREE_OUTPUT_SHORT, FILE_OUTPUT_SHORT,
+  BAD_COUNT = 20
 };
 
 /* The tree covers 32 by 32 quarters. */
 enum { LEVELS = 4, QUARTERS = 32, LEAF_MAX = 3, SPLIT = 4, TREE_MAX = 1365 };
 
 /* A file's field: a head of a tag and a two-byte length, then its body. */
-enum { HEAD = 3, TAG_SIDES = 1, TAG_TREE = 2, TAG_LEVEL_0 = 16, SIDES_BYTES = 2, NUMBER_BYTES = 5 };
+enum { HEAD = 3, TAG_SIDES = 1, TAG_TREE, TAG_COUNTS, TAG_LEVEL_0 = 16 };
+enum { SIDES_BYTES = 2, COUNTS_BYTES = 8, NUMBER_BYTES = 5 };
 
 /* The regions of levels 1 to 3: bit q of row[l][r] is set where quarter square (q, r) has level l + 1 or more. */
 struct regions {
@@ -106,8 +108,8 @@ struct marks inside_row(const struct regions *regions, size_t w, size_t h, size_
 /* The active functions of row b of a level. */
 struct marks active_row(const struct regions *regions, size_t w, size_t h, size_t level, size_t b);
 
-/* How many functions of a level are active. */
-size_t active_count(const struct regions *regions, size_t w, size_t h, size_t level);
+/* How many functions of each level are active. */
+void count_active(const struct regions *regions, size_t w, size_t h, size_t counts[LEVELS]);
 
 /* Causes 1 to 5, with the regions where none applies. */
 uint8_t check(size_t w, size_t h, const uint8_t *tree, size_t tree_len, const int64_t *numbers, size_t numbers_len,

@@ -1,5 +1,5 @@
 /* File writing in plain C: the table is checked, the file's length is found from the active counts, then the fields are
-   written one after another. */
+   written one after another, the counts among them. */
 #include "plain_inside.h"
 
 /* Writes a field's head, and returns the position after it. */
@@ -19,6 +19,16 @@ static inline uint8_t *put_number(uint8_t *to, int64_t number) {
   to[3] = (uint8_t)(n >> 8);
   to[4] = (uint8_t)n;
   return to + NUMBER_BYTES;
+}
+
+/* Writes the field of the active counts, two bytes each, high byte first, and returns the position after it. */
+static inline uint8_t *put_counts(uint8_t *to, const size_t counts[LEVELS]) {
+  to = put_head(to, TAG_COUNTS, COUNTS_BYTES);
+  for (size_t level = 0; level < LEVELS; level++) {
+    *to++ = (uint8_t)(counts[level] >> 8);
+    *to++ = (uint8_t)counts[level];
+  }
+  return to;
 }
 
 /* Writes the numbers of a row whose functions are marked, and returns the position after them. */
@@ -44,21 +54,19 @@ uint8_t plain_write_file(size_t w, size_t h, const uint8_t *tree, size_t tree_le
   struct regions regions;
   uint8_t cause = check(w, h, tree, tree_len, numbers, numbers_len, &regions), *to = file_out;
   if (cause) return cause;
-  size_t body[LEVELS], whole = HEAD + SIDES_BYTES + HEAD + tree_len;
-  for (size_t level = 0; level < LEVELS; level++) {
-    body[level] = NUMBER_BYTES * active_count(&regions, w, h, level);
-    whole += HEAD + body[level];
-  }
+  size_t counts[LEVELS], whole = HEAD + SIDES_BYTES + HEAD + tree_len + HEAD + COUNTS_BYTES;
+  count_active(&regions, w, h, counts);
+  for (size_t level = 0; level < LEVELS; level++) whole += HEAD + NUMBER_BYTES * counts[level];
   if (file_out_len < whole) return FILE_OUTPUT_SHORT;
   to = put_head(to, TAG_SIDES, SIDES_BYTES);
   *to++ = (uint8_t)w;
   *to++ = (uint8_t)h;
   to = put_head(to, TAG_TREE, tree_len);
   memcpy(to, tree, tree_len);
-  to += tree_len;
+  to = put_counts(to + tree_len, counts);
   for (size_t level = 0; level < LEVELS; level++) {
-    to = put_head(to, TAG_LEVEL_0 + level, body[level]);
-    if (body[level]) to = save_level(numbers + start(w, h, level), &regions, w, h, level, to);
+    to = put_head(to, TAG_LEVEL_0 + level, NUMBER_BYTES * counts[level]);
+    if (counts[level]) to = save_level(numbers + start(w, h, level), &regions, w, h, level, to);
   }
   *length = whole;
   return 0;

@@ -14,7 +14,8 @@ from typing import Dict, List
 sys.dont_write_bytecode = True
 
 import bars
-from measure import BEYOND, CALLS, LARGEST_FILE, ROOT, Figures, Measured, all_figures, tables, tablefile
+from measure import BEYOND, CALLS, LARGEST_FILE, MEASURED, OF_FILES, READ, ROOT, Figures, Measured, all_figures
+from measure import file_of, tables
 
 
 def processor() -> str:
@@ -34,8 +35,8 @@ def paragraphs() -> List[str]:
         "those of the day it was made, and `check_plain.py` holds the C program to the evaluator.",
         "The least level is asked over the whole sheet, the activity of level 3; one coefficient of level 0 is set; "
         "the whole sheet is raised to level 3; readings are taken at (64 W + 5, 64 H + 7), the tariff is 1,500; the "
-        "file that is read and written is the table's, and the largest is that of 8 by 8 with the tree 3, 22,445 "
-        "bytes of coefficients. "
+        "file that is read and written is the table's, read with its counts and without them, and the largest is that "
+        "of 8 by 8 with the tree 3, 22,445 bytes of coefficients. "
         "Callgrind counts each repetition of a rep instruction, so on both sides memory is filled and copied without. "
         "No call allocates.",
     ]
@@ -58,7 +59,7 @@ def bar_table(figures: Figures) -> List[str]:
 
 
 def call_table(call: str, title: str, figures: Figures) -> List[str]:
-    of_file = call in ("read_file", "write_file")
+    of_file = call in OF_FILES
     bytes_of = "file" if of_file else "tree"
     head = f"| table | {bytes_of} bytes | library | C | ratio |"
     if call != BEYOND:
@@ -69,7 +70,7 @@ def call_table(call: str, title: str, figures: Figures) -> List[str]:
         if call not in library.counts:
             continue
         ours, theirs = library.counts[call], plain.counts[call]
-        size = len(tablefile.write_file(*t) if of_file else t.tree)
+        size = len(file_of(t, call) if of_file else t.tree)
         line = f"| {name} | {size:,} | {ours:,} | {theirs:,} | {ours / theirs:.2f} |"
         if call != BEYOND:
             ours, theirs = library.times[call], plain.times[call]
@@ -87,14 +88,14 @@ def page(figures: Figures) -> str:
     for words in paragraphs():
         lines += ["", fill(words, 116, break_on_hyphens=False)]
     lines += bar_table(figures)
-    for call, title in (*CALLS.items(), (BEYOND, BEYOND)):
+    for call, title in (*MEASURED.items(), (BEYOND, BEYOND)):
         lines += call_table(call, title, figures)
     lines += ["", "## Stack", "", "Bytes of stack down to the lowest that one call changes, the greatest over these "
               "tables.", "", "| call | library | C |", "|---|---|---|"]
-    for call, title in CALLS.items():
+    for call, title in MEASURED.items():
         ours, theirs = greatest_stack(figures.library, call), greatest_stack(figures.plain, call)
         lines.append(f"| {title} | {ours:,} | {theirs:,} |")
-    loaded = figures.library[LARGEST_FILE].counts["read_file"]
+    loaded = figures.library[LARGEST_FILE].counts[READ]
     lines += ["", "## The corner program", "",
               fill(f"On the file of {LARGEST_FILE}: {figures.corners:,} instructions from start to end, "
                    f"{figures.corners / loaded:.2f} times file reading of it.", 116)]

@@ -1,4 +1,5 @@
-"""Writes the sample tables in tables/: the evaluator fits and writes them, and the compiled library refines one.
+"""Writes the sample tables in tables/: the evaluator fits and writes them, and the compiled library refines one. Each
+is there as a file without counts, as files were at first, and as one with them.
 
 Run as: python3 tests/corners/make_tables.py
 """
@@ -24,7 +25,8 @@ FLAT = tuple((0,) * 32 for _ in range(32))
 
 
 def fitted(w: int, h: int, boxes: Boxes, watts: Watts) -> bytes:
-    """The file of a table with these regions, whose coefficients are the watts in the middle of each support."""
+    """The file, without counts, of a table with these regions, whose coefficients are the watts in the middle of each
+    support."""
     levels = FLAT
     for box, level in boxes:
         levels = quadtree.raised(levels, box, level)
@@ -35,7 +37,7 @@ def fitted(w: int, h: int, boxes: Boxes, watts: Watts) -> bytes:
         for level in LEVELS
         for i, j in surface.functions(level)
     ]
-    return tablefile.write_file(w, h, tree, coefficients)
+    return tablefile.write_file(w, h, tree, coefficients, counted=False)
 
 
 def kiln(u: float, v: float) -> float:
@@ -53,7 +55,7 @@ def bench(u: float, v: float) -> float:
 
 
 def refined(lib: Library, file: bytes, boxes: Boxes) -> bytes:
-    """The file of a table after the library's insertion of each box, and nothing else."""
+    """The file, without counts, of a table after the library's insertion of each box, and nothing else."""
     w, h, tree, coefficients = tablefile.judge(file)
     for box, level in boxes:
         tree_out, numbers_out = octets([0] * quadtree.GREATEST_TREE), numbers([0] * len(coefficients))
@@ -61,19 +63,25 @@ def refined(lib: Library, file: bytes, boxes: Boxes) -> bytes:
         if got.cause:
             raise ValueError(f"the insertion of {box} is refused with {got.cause}")
         tree, coefficients = tree_out.values()[: got.said()[1]], numbers_out.values()
-    return tablefile.write_file(w, h, tree, coefficients)
+    return tablefile.write_file(w, h, tree, coefficients, counted=False)
+
+
+def counted(file: bytes) -> bytes:
+    """The file with counts of the table that a file holds."""
+    return tablefile.write_file(*tablefile.judge(file))
 
 
 NEAR_TOP_HEAT: Boxes = (((20, 0, 32, 16), 1), ((25, 0, 32, 16), 2), ((26, 4, 30, 12), 3))
 UNREFINED = fitted(8, 4, (), kiln)
 LIBRARY = Library(Inside(shared(), "kiln_"))
-TABLES: Dict[str, bytes] = {
+UNCOUNTED: Dict[str, bytes] = {
     "bench-s": fitted(1, 1, (), bench),
     "bench-s-level-1": fitted(1, 1, (((0, 0, 4, 4), 1),), bench),
     "kiln-unrefined": UNREFINED,
     "kiln-refined-near-top-heat": refined(LIBRARY, UNREFINED, NEAR_TOP_HEAT),
     "kiln-fitted-near-top-heat": fitted(8, 4, NEAR_TOP_HEAT, kiln),
 }
+TABLES: Dict[str, bytes] = {**UNCOUNTED, **{f"{name}-counted": counted(file) for name, file in UNCOUNTED.items()}}
 
 
 def main() -> int:

@@ -11,13 +11,13 @@ from make_tables import LIBRARY, NEAR_TOP_HEAT, TABLES
 from surface import LEVELS
 
 
-def inserted(table: tablefile.Content) -> bytes:
-    """The file of the table after the evaluator's insertion of the same boxes."""
+def inserted(table: tablefile.Content) -> tablefile.Content:
+    """The table after the evaluator's insertion of the same boxes."""
     for box, level in NEAR_TOP_HEAT:
         outcome = calls.insert(*table, box, level, [0] * 1_365, [0] * len(table.coefficients))
         tree = outcome.lent["tree_out"][: outcome.answer[1]]
         table = table._replace(tree=tree, coefficients=outcome.lent["coefficients_out"])
-    return tablefile.write_file(*table)
+    return table
 
 
 def readings(lib: Library, table: tablefile.Content) -> List[Tuple]:
@@ -31,8 +31,10 @@ def faults() -> Iterator[str]:
     """What is not as it should be; the tables' corners and files are held to the evaluator beside this."""
     names = "kiln-unrefined", "kiln-refined-near-top-heat", "kiln-fitted-near-top-heat"
     plain, refined, fitted = (tablefile.judge(TABLES[name]) for name in names)
-    if inserted(plain) != TABLES[names[1]]:
-        yield "the refined copy is not what the evaluator's insertions give"
+    finer = inserted(plain)
+    for file, counted in ((TABLES[names[1]], False), (TABLES[f"{names[1]}-counted"], True)):
+        if tablefile.write_file(*finer, counted=counted) != file:
+            yield f"the refined copy of {len(file)} bytes is not what the evaluator's insertions give"
     if refined.tree != fitted.tree or refined.tree == plain.tree:
         yield "the refined and the fitted table are to share regions that the unrefined one lacks"
     surface = calls.surface_of(refined.w, refined.h, refined.tree)

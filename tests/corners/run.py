@@ -1,5 +1,5 @@
-"""Runs the corner program on sample, generated and damaged files, with expected output made by the evaluator; holds
-the refined sample table to the unrefined one, and the figures told in the pages to the library.
+"""Runs the corner program on sample, generated and damaged files, with counts and without, with expected output made by
+the evaluator; holds the refined sample table to the unrefined one, and the figures told in the pages to the library.
 
 Run as: python3 tests/corners/run.py
 """
@@ -9,7 +9,7 @@ import subprocess
 import sys
 from pathlib import Path
 from random import Random
-from typing import List
+from typing import Iterator, List
 
 sys.dont_write_bytecode = True
 ROOT = Path(__file__).resolve().parents[2]
@@ -21,7 +21,7 @@ import samples
 import tablefile
 import told_in_pages
 from library import corner_program
-from make_tables import TABLES
+from make_tables import TABLES, UNCOUNTED
 
 PROGRAM = corner_program()
 HELD = 65_536
@@ -39,24 +39,44 @@ def printed_without_input() -> List[bytes]:
     return [run.stdout for run in runs]
 
 
-def file_of(t: samples.Table) -> bytes:
-    return tablefile.write_file(t.w, t.h, t.tree, t.coefficients)
+def files_of(t: samples.Table) -> List[bytes]:
+    """The two files of a table: without counts, and with them."""
+    return [tablefile.write_file(*t, counted=counted) for counted in (False, True)]
 
 
 def generated() -> List[bytes]:
     """Files of a dozen tables and more, whole and damaged, and input longer than any file."""
-    rng = Random(11)
-    files = [file_of(samples.random_table(rng, rng.randint(1, 8), rng.randint(1, 8))) for _ in range(16)]
-    small = TABLES["bench-s-level-1"]
-    files += [small[:n] for n in range(0, len(small), 7)] + [small + b"\0", small + bytes(10), bytes([1]) + small]
-    files += [files[0] + bytes(HELD), bytes(HELD), bytes(3 * HELD), small + bytes(2 * HELD)]
-    files += [bytes([1, 0, 2, w, h]) + small[5:] for w, h in ((0, 1), (9, 1), (1, 255), (2, 1))]
-    return files
+    rng, files = Random(11), []
+    for _ in range(16):
+        files += files_of(samples.random_table(rng, rng.randint(1, 8), rng.randint(1, 8)))
+    for small in (TABLES["bench-s-level-1"], TABLES["bench-s-level-1-counted"]):
+        files += [small[:n] for n in range(0, len(small), 7)] + [small + b"\0", small + bytes(10), bytes([1]) + small]
+        files += [small + bytes(2 * HELD)]
+        files += [bytes([1, 0, 2, w, h]) + small[5:] for w, h in ((0, 1), (9, 1), (1, 255), (2, 1))]
+    return files + [files[0] + bytes(HELD), files[1] + bytes(HELD), bytes(HELD), bytes(3 * HELD)]
 
 
-def largest() -> bytes:
+def miscounted() -> List[bytes]:
+    """A file with each bit of its counts' field turned over, alone: refused with 13, 14 or 20."""
+    file = TABLES["kiln-refined-near-top-heat-counted"]
+    start = 8 + int.from_bytes(file[6:8], "big")
+    return [file[:at] + bytes([file[at] ^ 1 << bit]) + file[at + 1:]
+            for at in range(start, start + 11) for bit in range(8)]
+
+
+def fronts(files: List[bytes]) -> Iterator[str]:
+    """That long input has the text of its first 32,377 bytes, and of more and of all of them. No file is as long as
+    that bound, so that a shorter front would pass here too; that 32,377 are enough for every input is proved."""
+    for file in files:
+        long = file + bytes(3 * HELD)
+        lengths = tablefile.GREATEST_FILE + 1, tablefile.GREATEST_FILE + 2, HELD, HELD + 1, len(long)
+        if len({"\n".join(printed(long[:n])) for n in lengths}) != 1:
+            yield f"{len(file)} bytes and more: the text moves with what is given beyond {lengths[0]}"
+
+
+def largest() -> List[bytes]:
     whole = tuple((3,) * 32 for _ in range(32))
-    return file_of(samples.table_of(Random(3), 8, 8, whole))
+    return files_of(samples.table_of(Random(3), 8, 8, whole))
 
 
 def main() -> int:
@@ -65,7 +85,7 @@ def main() -> int:
         if (ROOT / "tables" / f"{name}.table").read_bytes() != file:
             faults += 1
             print(f"tables/{name}.table is not what make_tables.py makes")
-    files = list(TABLES.values()) + generated() + [largest()]
+    files = list(TABLES.values()) + generated() + miscounted() + largest()
     for at, file in enumerate(files):
         want = calls.corner_lines(file) + [""]
         got = printed(file)
@@ -75,7 +95,11 @@ def main() -> int:
     if printed_without_input() != [b"refused 12\n"] * 2:
         faults += 1
         print(f"with no input the program prints {printed_without_input()}")
-    for fault in (*refined_copy.faults(), *told_in_pages.faults()):
+    for name, file in UNCOUNTED.items():
+        if printed(file) != printed(TABLES[f"{name}-counted"]) or file == TABLES[f"{name}-counted"]:
+            faults += 1
+            print(f"{name}: the text of the file with counts is another than that of the one without")
+    for fault in (*fronts(largest() + miscounted()[-1:] + files[:1]), *refined_copy.faults(), *told_in_pages.faults()):
         faults += 1
         print(fault)
     if printed(TABLES["kiln-refined-near-top-heat"]) != printed(TABLES["kiln-unrefined"]):

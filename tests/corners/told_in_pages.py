@@ -10,6 +10,7 @@ from surface import D, total_places
 
 TARIFF, IN_CENTS = 2_950, 30
 REFINED = "kiln-refined-near-top-heat"
+COUNTED = REFINED + "-counted"
 
 
 class Figures(NamedTuple):
@@ -35,7 +36,7 @@ def sloping(columns: Tuple[int, int, int, int]) -> tablefile.Content:
 
 def damaged() -> Tuple[int, int]:
     """The bits of the refined sample file, and how many of them turned over alone leave a file that loads."""
-    file, loaded = TABLES[REFINED], 0
+    file, loaded = TABLES[COUNTED], 0
     tree_out, numbers_out = octets([0] * 1_365), numbers([0] * total_places(file[3], file[4]))
     for bit in range(8 * len(file)):
         changed = bytearray(file)
@@ -69,7 +70,7 @@ def told() -> Iterator[Tuple[str, str]]:
     yield why, (f"In `bench-s.table` at 8 0 the exact watts are {halves // 2} {halves % 2}/2, and the display shows "
                 f"{middle.shown}")
     bits, loaded = damaged()
-    yield why, (f"`{REFINED}.table` has {bits:,} bits; with a single one turned over, it is refused in "
+    yield why, (f"`{COUNTED}.table` has {bits:,} bits; with a single one turned over, it is refused in "
                 f"{bits - loaded:,} cases, and in the other {loaded:,} it loads")
 
 

@@ -9,12 +9,11 @@ from typing import Callable, Iterator, List, Sequence, Tuple
 
 import insertions
 from cases import calls, quadtree, samples
-from files import small
+from files import both_files, small
 from library import Library, differ, numbers, octets
 from saving import GREATEST_FILE, file_length, write
 from surface import D, LEVELS, TREE_SIDE, Box, LevelMap, coefficient_limit, place_count, total_places
 from tables import READINGS, read_at, words
-from tablefile import write_file
 
 NO_LEVELS: LevelMap = ((0,) * TREE_SIDE,) * TREE_SIDE
 # A length kept in 8 or in 16 bits is right but for so many elements.
@@ -165,12 +164,13 @@ def largest_tree(rng: Random, lib: Library) -> Iterator[str]:
         yield insert(lib, t, whole, 3, 1)
         yield insert(lib, t, (0, 0, 1, 1), 1, GREATEST)
         yield insert(lib, t, (31, 31, 32, 32), 3, GREATEST - 1)
-        file = write_file(*t)
-        for told, given in (("largest tree", file), ("largest tree, last byte cut", file[:-1]),
-                            ("largest tree, longer", file + bytes(65_536))):
-            yield file_read(lib, told, given, t, GREATEST)
-        yield file_read(lib, "largest tree", file, t, GREATEST - 1)
-        yield from (write(lib, t, length) for length in (len(file) - 1, len(file), GREATEST_FILE))
+        for file in both_files(t):
+            for told, given in (("largest tree", file), ("largest tree, last byte cut", file[:-1]),
+                                ("largest tree, longer", file + bytes(65_536))):
+                yield file_read(lib, told, given, t, GREATEST)
+            yield file_read(lib, "largest tree", file, t, GREATEST - 1)
+            # The file without counts is what the old rule wrote; as many bytes are too few now.
+            yield from (write(lib, t, length) for length in (len(file) - 1, len(file), GREATEST_FILE))
 
 
 def largest_made(rng: Random, lib: Library) -> Iterator[str]:
@@ -211,11 +211,11 @@ def long_slices(lib: Library) -> Iterator[str]:
             yield insert(lib, t, (0, 0, 4, 2), 2, GREATEST, more)
             yield insert(lib, t, (0, 0, 4, 2), 2, more)
             yield insert(lib, t, (0, 0, 4, 2), 2, more + 1)
-            file = write_file(*t)
-            yield file_read(lib, "long numbers", file, t, GREATEST, more)
-            yield from (file_read(lib, "long tree output", file, t, n) for n in (more, more + 1))
-            yield file_read(lib, "a long file", file + bytes(more), t, GREATEST)
-            yield from (write(lib, t, length) for length in (more, more + len(file) - 1, more + len(file)))
+            for file in both_files(t):
+                yield file_read(lib, "long numbers", file, t, GREATEST, more)
+                yield from (file_read(lib, "long tree output", file, t, n) for n in (more, more + 1))
+                yield file_read(lib, "a long file", file + bytes(more), t, GREATEST)
+                yield from (write(lib, t, length) for length in (more, more + len(file) - 1, more + len(file)))
         yield differ("fresh, long numbers", lib.fresh(1, 1, 700, octets([9]), numbers([7] * (211 + more))),
                      ("refused", 16))
         for length in (more, more + 1):
@@ -307,7 +307,7 @@ def saved_lengths(lib: Library) -> Iterator[str]:
     for values in ([limit, -limit], [-1], [-limit], [(-1)**at * (limit - at) for at in range(4_489)]):
         whole = with_numbers(samples.Table(8, 8, [3], [0] * 6_196), values)
         n = file_length(whole)
-        yield from (write(lib, whole, length) for length in (0, n - 5, n - 1, n, n + 1, GREATEST_FILE))
+        yield from (write(lib, whole, length) for length in (0, n - 11, n - 5, n - 1, n, n + 1, GREATEST_FILE))
 
 
 def fixed(rng: Random, lib: Library) -> List[str]:

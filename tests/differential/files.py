@@ -1,4 +1,4 @@
-"""Table files, whole and damaged at every kind of place, held to the unrelated evaluator."""
+"""Table files with counts and without, whole and damaged at every kind of place, held to the unrelated evaluator."""
 from __future__ import annotations
 
 from itertools import accumulate
@@ -8,13 +8,12 @@ from typing import Callable, Dict, Iterator, List, Optional, Sequence, Tuple
 import cases
 import tablefile
 from cases import calls, quadtree, samples
+from counts import IN_COUNTS, Field
 from library import Library, differ, numbers, octets
 from saving import drawn
 from surface import coefficient_limit, total_places
 from tablefile import COEFFICIENT_BYTES, HEAD, TAG_LEVEL_0, TAG_SIDES, TAG_TREE, coefficient_bytes, field, write_file
 
-# A field: its tag, the length that its head tells, its body.
-Field = Tuple[int, int, bytes]
 SIDES = (0, 9, 255, 1, 8)
 # The least and the greatest number of five bytes.
 FIVE_BYTES = (-(2**39), 2**39 - 1)
@@ -30,8 +29,13 @@ def read(lib: Library, words: str, file: bytes, tree_length: int, numbers_length
                   (tree_out, want.lent["tree_out"]), (numbers_out, want.lent["coefficients_out"]))
 
 
-def fields_of(t: samples.Table) -> List[Field]:
-    return [(tag, len(body), body) for tag, body in tablefile.table_fields(*t)]
+def fields_of(t: samples.Table, counted: bool) -> List[Field]:
+    return [(tag, len(body), body) for tag, body in tablefile.table_fields(*t, counted)]
+
+
+def both_files(t: samples.Table) -> Tuple[bytes, bytes]:
+    """The two files that load a table: with its counts, and without."""
+    return write_file(*t), write_file(*t, counted=False)
 
 
 def joined(fields: Sequence[Field]) -> bytes:
@@ -132,7 +136,8 @@ def any_bytes(rng: Random, _: bytes, __: Sequence[int]) -> bytes:
     return bytes(rng.choice((0, 1, 2, 4, 16, rng.randrange(256))) for _ in range(rng.randrange(80)))
 
 
-IN_FIELDS = (other_tag, other_length, other_body, other_tree, other_regions, other_side, other_number, other_order)
+IN_FIELDS = (other_tag, other_length, other_body, other_tree, other_regions, other_side, other_number, other_order,
+             *IN_COUNTS)
 IN_BYTES = (cut, longer, other_byte)
 
 
@@ -158,10 +163,10 @@ def lengths(rng: Random, t: samples.Table) -> Tuple[int, int]:
 
 
 def read_file(rng: Random, lib: Library) -> Iterator[str]:
-    """Files of a table, each with no fault, one or two, read into outputs of any lengths."""
+    """Files of a table, with counts or without, each with no fault, one or two, read into outputs of any lengths."""
     t = drawn(lib, cases.table(rng))
-    fields = fields_of(t)
     for _ in range(12):
+        fields = fields_of(t, rng.random() < 0.6)
         kinds = rng.choices(IN_FIELDS + IN_BYTES, k=rng.choice((0, 0, 1, 1, 2)))
         kinds = [any_bytes] if rng.random() < 0.03 else kinds
         words = " and ".join(kind.__name__ for kind in kinds) or "whole"
@@ -181,15 +186,17 @@ def small() -> samples.Table:
 
 def small_file(lib: Library) -> List[str]:
     """A small file cut everywhere, with each byte changed to some others, and with bytes after it."""
-    t = small()
-    file, room = write_file(*t), (len(t.tree) + 3, 211)
-    found = [read(lib, f"cut to {at}", file[:at], *room) for at in range(len(file) + 1)]
-    for at, byte in enumerate(file):
-        others = {0, 1, 2, 3, 4, 8, 9, 127, 128, 255, (byte + 1) % 256, (byte - 1) % 256, byte ^ 128} - {byte}
-        found += [read(lib, f"byte {at} is {other}", file[:at] + bytes([other]) + file[at + 1:], *room)
-                  for other in sorted(others)]
-    tails = [bytes(1), b"\xff", bytes(2), bytes(3), field(20, b""), field(1, b"\1\1"), file, bytes(70_000)]
-    return found + [read(lib, f"{len(tail)} bytes after it", file + tail, *room) for tail in tails]
+    t, found = small(), []
+    room = len(t.tree) + 3, 211
+    for file in both_files(t):
+        found += [read(lib, f"cut to {at}", file[:at], *room) for at in range(len(file) + 1)]
+        for at, byte in enumerate(file):
+            others = {0, 1, 2, 3, 4, 8, 9, 127, 128, 255, (byte + 1) % 256, (byte - 1) % 256, byte ^ 128} - {byte}
+            found += [read(lib, f"byte {at} is {other}", file[:at] + bytes([other]) + file[at + 1:], *room)
+                      for other in sorted(others)]
+        tails = [bytes(1), b"\xff", bytes(2), bytes(3), field(20, b""), field(1, b"\1\1"), file, bytes(70_000)]
+        found += [read(lib, f"{len(tail)} bytes after it", file + tail, *room) for tail in tails]
+    return found
 
 
 def outputs(lib: Library) -> List[str]:
@@ -197,9 +204,9 @@ def outputs(lib: Library) -> List[str]:
     big = samples.Table(8, 8, [3], [0] * 1_707 + [(-1)**at * (64**3 * 32_000 - at) for at in range(4_489)])
     found = []
     for t in (small(), big):
-        n, places, file = len(t.tree), len(t.coefficients), write_file(*t)
-        found += [read(lib, f"outputs, {t.w} by {t.h}", file + tail, room, slots) for tail in (b"", b"\0")
-                  for room in (0, n - 1, n, n + 1, quadtree.GREATEST_TREE)
+        n, places = len(t.tree), len(t.coefficients)
+        found += [read(lib, f"outputs, {t.w} by {t.h}", file + tail, room, slots) for file in both_files(t)
+                  for tail in (b"", b"\0") for room in (0, n - 1, n, n + 1, quadtree.GREATEST_TREE)
                   for slots in (0, places - 1, places, places + 1)]
     return found
 
@@ -236,10 +243,11 @@ def sheets(rng: Random, lib: Library) -> List[str]:
     for w in range(1, 9):
         for h in range(1, 9):
             t = cases.table_on(rng, w, h)
-            fields, room = fields_of(t), (len(t.tree), total_places(w, h))
-            found.append(read(lib, f"whole of {w} by {h}", joined(fields), *room))
-            found += [read(lib, f"{kind.__name__} of {w} by {h}", damaged(rng, fields, [kind]), *room)
-                      for kind in IN_FIELDS + IN_BYTES]
+            room = len(t.tree), total_places(w, h)
+            for fields in (fields_of(t, True), fields_of(t, False)):
+                found.append(read(lib, f"whole of {w} by {h}", joined(fields), *room))
+                found += [read(lib, f"{kind.__name__} of {w} by {h}", damaged(rng, fields, [kind]), *room)
+                          for kind in IN_FIELDS + IN_BYTES]
     return found
 
 
@@ -254,9 +262,8 @@ def last_bytes(rng: Random, lib: Library) -> List[str]:
     tables += [samples.Table(8, 8, [3], [0] * 1_707 + [number] * 4_489) for number in (-1, -2)]
     found = []
     for t in tables:
-        file = write_file(*t)
         found += [read(lib, f"{less} bytes cut of {t.w} by {t.h}", file[:len(file) - less], len(t.tree),
-                       len(t.coefficients)) for less in (0, 1, COEFFICIENT_BYTES)]
+                       len(t.coefficients)) for file in both_files(t) for less in (0, 1, COEFFICIENT_BYTES)]
     return found
 
 

@@ -7,6 +7,7 @@ from random import Random
 from typing import List, Sequence, Tuple
 
 import cases
+import counted_files
 import edges
 import files
 import insertions
@@ -140,28 +141,41 @@ def bench_insertions(lib: Library) -> List[str]:
     ]
 
 
+def loaded(lib: Library, words: str, w: int, h: int, tree: List[int], values: List[int], file: bytes) -> str:
+    """A file read into outputs with room to spare for the tree: the table that it holds."""
+    tree_out, numbers_out = octets([9] * (len(tree) + 2)), numbers([7] * len(values))
+    got = lib.read_file(octets(file), tree_out, numbers_out)
+    return differ(f"read_file, {words}, {len(file)} bytes", got, ("ok", len(tree), w, h), (tree_out, tree + [9, 9]),
+                  (numbers_out, values))
+
+
 def bench_files(lib: Library) -> List[str]:
-    """The files of the bench sheet's tables, written out by hand, and both sides of each one's length."""
+    """The files of the bench sheet's tables, written out by hand: up to the tree, the counts, and the rest. Both sides
+    of each one's length; the old rule's file has no counts, is 11 bytes shorter, and is still loaded."""
     columns = "fffffffc18 0000000000 00000003e8 00000007d0", "ffffff8300 0000000000 0000007d00 000000fa00 0000017700"
     tree, none = "02000d 04040401 000000000000000000", "120000 130000"
     seven_1 = [0, 700, 700, 700, 700] * 4 + ([44_800] * 2 + [0] * 5) * 5 + [0] * 286
-    # The greatest and the least number of level 3, and -1; 22,445 bytes, 57ad, of numbers.
+    # The greatest and the least number of level 3, and -1; 22,445 bytes, 57ad, of 4,489 numbers, 1189.
     ends, whole = [32_000 * 64**3, -32_000 * 64**3, -1], "01f4000000 fe0c000000 ffffffffff" + "00" * 22_430
     rows = (
-        ("S", 1, 1, FLAT, S, 101, "0100020101 02000100 100050" + columns[0] * 4 + "110000" + none),
-        ("S with level 1", 1, 1, REFINED, S_1, 158,
-         "0100020101" + tree + "100000 11007d" + columns[1] * 5 + none),
-        ("700 watts on 2 by 1", 2, 1, REFINED, seven_1, 163,
-         "0100020201" + tree + "100050" + "00000002bc" * 16 + "110032" + "000000af00" * 10 + none),
-        ("8 by 8, tree 3", 8, 8, [3], [0] * 1_707 + ends + [0] * 4_486, 22_466,
-         "0100020808 02000103 100000 110000 120000 1357ad" + whole),
+        ("S", 1, 1, FLAT, S, 112,
+         ("0100020101 02000100", "0010 0000 0000 0000", "100050" + columns[0] * 4 + "110000" + none)),
+        ("S with level 1", 1, 1, REFINED, S_1, 169,
+         ("0100020101" + tree, "0000 0019 0000 0000", "100000 11007d" + columns[1] * 5 + none)),
+        ("700 watts on 2 by 1", 2, 1, REFINED, seven_1, 174,
+         ("0100020201" + tree, "0010 000a 0000 0000",
+          "100050" + "00000002bc" * 16 + "110032" + "000000af00" * 10 + none)),
+        ("8 by 8, tree 3", 8, 8, [3], [0] * 1_707 + ends + [0] * 4_486, 22_477,
+         ("0100020808 02000103", "0000 0000 0000 1189", "100000 110000 120000 1357ad" + whole)),
     )
     found = []
-    for words, w, h, regions, values, n, text in rows:
-        found += [saved(lib, f"{words}, {length} bytes", w, h, regions, values, length, ("ok", n), bytes.fromhex(text))
+    for words, w, h, regions, values, n, (front, counts, rest) in rows:
+        file, old = bytes.fromhex(front + "030008" + counts + rest), bytes.fromhex(front + rest)
+        found += [saved(lib, f"{words}, {length} bytes", w, h, regions, values, length, ("ok", n), file)
                   for length in (n, n + 1, n + 50, saving.GREATEST_FILE)]
         found += [saved(lib, f"{words}, {length} bytes give 18", w, h, regions, values, length, ("refused", 18))
-                  for length in (0, 1, n // 2, n - 1)]
+                  for length in (0, 1, n // 2, n - 11, n - 10, n - 3, n - 1)]
+        found += [loaded(lib, words, w, h, regions, values, given) for given in (file, old)]
     return found
 
 
@@ -245,6 +259,6 @@ def faults(lib: Library, seed: int, grids: bool) -> List[str]:
     found += two_faults_of_tables(lib) + two_faults_of_calls(lib)
     if grids:
         found += whole_grids(Random(seed), lib)
-    found += edges.fixed(Random(seed), lib) + files.fixed(Random(seed), lib)
+    found += edges.fixed(Random(seed), lib) + files.fixed(Random(seed), lib) + counted_files.fixed(Random(seed), lib)
     found += saving.again(lib)
     return [fault for fault in found if fault]

@@ -1,5 +1,5 @@
 """Tables saved to files, held to the unrelated evaluator; and of every case what was seen in it: each table is saved
-and loaded again, each file that loaded is saved again.
+and loaded again, with its counts and without, and each file that loaded is saved again.
 """
 from __future__ import annotations
 
@@ -8,13 +8,15 @@ from random import Random
 from typing import Callable, Dict, Iterator, Tuple
 
 import cases
+import tablefile
 from cases import calls, quadtree, samples
 from library import Held, Library, Seen, differ, numbers, octets
+from tablefile import GREATEST_FILE
 
 # The kind of the calls that save and load what was seen.
 AGAIN = "again"
-# No file is longer: an output of this length is never too short.
-GREATEST_FILE = 32_365
+# The bytes of the counts, with their head: so much shorter was a file by the old rule.
+COUNTS = tablefile.HEAD + tablefile.COUNTS_BYTES
 # What outputs hold before a call, of a file, a tree and numbers; no table has such numbers.
 ROOM = bytes(at % 251 for at in range(100_000))
 FILE_ROOM, TREE_ROOM = ROOM[:GREATEST_FILE], ROOM[:quadtree.GREATEST_TREE]
@@ -29,9 +31,9 @@ def drawn(lib: Library, t: samples.Table) -> samples.Table:
 def file_length(t: samples.Table) -> int:
     """The length of the file of a sheet and a tree, whatever the numbers; that of the bench sheet's S where none is."""
     if calls.judge_regions(t.w, t.h, t.tree) is not None:
-        return 101
+        return 112
     active = sum(limit is not None for limit in calls.surface_of(t.w, t.h, t.tree).limits())
-    return 20 + len(t.tree) + 5 * active
+    return 31 + len(t.tree) + 5 * active
 
 
 def write(lib: Library, t: samples.Table, length: int) -> str:
@@ -43,10 +45,12 @@ def write(lib: Library, t: samples.Table, length: int) -> str:
 
 
 def output_length(rng: Random, t: samples.Table) -> int:
-    """Enough for the file; else too short by one, by a head or a number, by far, or at the end of a field."""
+    """Enough for the file; else too short by one, by a head, a number or the counts, by far, or at the end of a
+    field."""
     n = file_length(t)
     enough = (n, n, n, n + 1, n + rng.randint(1, 40), GREATEST_FILE) * 2 + (n - 1 + cases.LONGER, cases.LONGER)
-    return rng.choice(enough + (n - 1, n - 1, n - 3, n - 5, rng.randrange(n), 8 + len(t.tree), 5, 0))
+    short = n - 1, n - 1, n - 3, n - 5, n - COUNTS, rng.randrange(n)
+    return rng.choice(enough + short + (8 + len(t.tree), 8 + len(t.tree) + COUNTS, 5, 0))
 
 
 def write_file(rng: Random, lib: Library) -> Iterator[str]:
@@ -71,23 +75,27 @@ def _saved(lib: Library, words: str, table: Held) -> Tuple[str, bytes]:
 
 
 def _table_again(lib: Library, table: Held) -> str:
-    """"loading it restores the same tree and coefficients"."""
+    """"loading it restores the same tree and coefficients", and "Files lacking it are still loaded": as the same."""
     w, h, tree, values = table
     words = f"table {w} {h} {tree.hex()}"
     fault, file = _saved(lib, words, table)
-    if fault:
-        return fault
-    tree_out, numbers_out = octets(TREE_ROOM), numbers(ROOM[:len(values)])
-    got = lib.read_file(octets(file), tree_out, numbers_out)
-    return differ(f"{words}, saved and loaded", got, ("ok", len(tree), w, h), (tree_out, tree + TREE_ROOM[len(tree):]),
-                  (numbers_out, values))
+    for how, given in (("", file), (" without its counts", tablefile.without_counts(file))):
+        tree_out, numbers_out = octets(TREE_ROOM), numbers(ROOM[:len(values)])
+        fault = fault or differ(f"{words}, saved and loaded{how}", lib.read_file(octets(given), tree_out, numbers_out),
+                                ("ok", len(tree), w, h), (tree_out, tree + TREE_ROOM[len(tree):]),
+                                (numbers_out, values))
+    return fault
 
 
 def _file_again(lib: Library, file: bytes, table: Held) -> str:
-    """"saving a loaded file reproduces its bytes"."""
+    """"saving what was loaded reproduces the bytes only of files that had it": others get the evaluator's counts after
+    the tree."""
     words = f"file {file.hex()}, loaded"
+    if isinstance(tablefile.judge(file), int):
+        return f"{words}, though {tablefile.judge(file)} is due"
     fault, again = _saved(lib, words, table)
-    return fault or ("" if again == file else f"{words}, saved: is {again.hex()}")
+    due = file if tablefile.is_counted(file) else tablefile.with_counts(file)
+    return fault or ("" if again == due else f"{words}, saved: is {again.hex()}, should be {due.hex()}")
 
 
 def again(lib: Library) -> Iterator[str]:

@@ -288,8 +288,9 @@ def cost(w: int, h: int, tree: Sequence[int], coefficients: Sequence[int], u: in
     return Outcome(("ok", cost_of(shown.answer[1], tariff)), shown.lent)
 
 
-# Document 01, The table file: 'Reading fills a tree buffer and a coefficient slice.'; byte order, then 15, 16, 17.
-# Answer ('ok', tree length, W, H); lent file, tree_out and coefficients_out.
+# Document 01, The table file: 'Reading fills a tree buffer and a coefficient slice.'; byte order, in which 20 has its
+# place (Document 02, Seven), then 15, 16, 17. Answer ('ok', tree length, W, H); lent file, tree_out and
+# coefficients_out.
 def read_file(file: Sequence[int], tree_out: Sequence[int], coefficients_out: Sequence[int]) -> Outcome:
     lent = {"file": file, "tree_out": tree_out, "coefficients_out": coefficients_out}
     content = tablefile.judge(file)
@@ -304,7 +305,8 @@ def read_file(file: Sequence[int], tree_out: Sequence[int], coefficients_out: Se
 
 
 # Document 02, One: 'Add the writer for document 01's file', 'Tables are checked as elsewhere'; 1 to 5, then 18, 'file
-# output shorter than the file, judged last'. Answer ('ok', file length); lent tree, coefficients and file_out.
+# output shorter than the file, judged last'. Seven: 'Size needs ... include the field'. Answer ('ok', file length);
+# lent tree, coefficients and file_out.
 def write_file(w: int, h: int, tree: Sequence[int], coefficients: Sequence[int], file_out: Sequence[int]) -> Outcome:
     lent = {"tree": tree, "coefficients": coefficients, "file_out": file_out}
     cause = judge_table(w, h, tree, coefficients)

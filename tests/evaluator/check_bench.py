@@ -9,15 +9,16 @@ import sys
 sys.dont_write_bytecode = True
 
 from fractions import Fraction
-from random import Random
 from typing import Callable, List, Sequence, Tuple
 
 import calls
+import file_cases
 import properties
 import samples
+import saved_files
 import tablefile
 import tree as quadtree
-from samples import Table
+from samples import Table, bench_s, columns_table, fresh_table, inserted
 from surface import D, LEVELS, PUBLISHED, Rules, Surface, carried_watts, place_count, place_of, total_places
 
 Check = Callable[[bool, str], None]
@@ -38,29 +39,6 @@ class Tally:
             self.passed += 1
         else:
             self.failed.append(words)
-
-
-# A 1 by 1 table whose level 0 columns are the given ones, 'equal in all rows'.
-def columns_table(columns: Sequence[int]) -> Table:
-    return Table(1, 1, [0], list(columns) * 4 + [0] * (total_places(1, 1) - 16))
-
-
-# Document 01, Bench sheet: 'S is 1 by 1 with level 0 columns -1,000, 0, 1,000, 2,000'.
-def bench_s() -> Table:
-    return columns_table((-1_000, 0, 1_000, 2_000))
-
-
-def fresh_table(w: int, h: int, number: int) -> Table:
-    outcome = calls.fresh(w, h, number, [9], [7] * total_places(w, h))
-    return Table(w, h, outcome.lent["tree_out"], outcome.lent["coefficients_out"])
-
-
-def inserted(table: Table, box: Tuple[int, int, int, int], level: int) -> Table:
-    outcome = calls.insert(*table, box, level, [9] * 1_365, [7] * len(table.coefficients))
-    assert outcome.answer[0] == "ok"
-    return table._replace(
-        tree=outcome.lent["tree_out"][: outcome.answer[1]], coefficients=outcome.lent["coefficients_out"]
-    )
 
 
 def level_part(table: Table, level: int) -> List[int]:
@@ -172,7 +150,7 @@ def refusals(check: Check) -> None:
         cases.append((number, calls.display(*table, -1, 999)))
         cases.append((number, calls.cost(*table, -1, 999, -1)))
         # 18 is 'judged last': with an output that is too short too, and with one that no file is longer than.
-        cases += [(number, calls.write_file(*table, [8] * length)) for length in (0, 99, 32_365)]
+        cases += [(number, calls.write_file(*table, [8] * n)) for n in (0, 99, 32_365, tablefile.GREATEST_FILE)]
         if number <= 2:
             cases.append((number, calls.activity(*table[:3], 4, [])))
             cases.append((number, calls.least_level(*table[:3], (1, 1, 1, 1))))
@@ -198,7 +176,8 @@ def refusals(check: Check) -> None:
     cases += [(16, calls.activity(1, 1, [0], 1, [5] * n)) for n in (0, 24, 26, 16)]
     cases += [(17, calls.insert(*s, box, 1, [9] * n, out)) for n in (0, 1, 12)]
     cases.append((17, calls.fresh(1, 1, 5, [], out)))
-    cases += [(18, calls.write_file(*s, [8] * n)) for n in (0, 1, 5, 12, 100)]
+    # The file of S has 112 bytes; 101 were enough by the old rule, without the counts.
+    cases += [(18, calls.write_file(*s, [8] * n)) for n in (0, 1, 5, 12, 100, 101, 102, 111)]
     for number, outcome in cases:
         check(outcome.answer == ("refused", number), "refusal %d, given %s" % (number, outcome.answer))
     refused_insert = calls.insert(*s, box, 1, [9] * 12, out)
@@ -218,93 +197,67 @@ def refusals(check: Check) -> None:
     check(calls.judge_table(1, 1, subtrees, [0] * total) is None, "four equal split subtrees are allowed")
 
 
-# Document 01, The table file: files read back, and each damage with its number in byte order.
-def files(check: Check) -> None:
-    rng = Random(21)
-    for w, h in ((1, 1), (2, 1), (3, 4), (8, 8)):
-        table = samples.random_table(rng, w, h)
-        file = tablefile.write_file(*table)
-        length = len(table.tree)
-        outcome = calls.read_file(file, [9] * (length + 2), [7] * len(table.coefficients))
-        check(outcome.answer == ("ok", length, w, h), "file of %d by %d" % (w, h))
-        check(outcome.lent["tree_out"] == table.tree + [9, 9], "tree from a file of %d by %d" % (w, h))
-        check(outcome.lent["coefficients_out"] == table.coefficients, "coefficients from a file of %d by %d" % (w, h))
-        for cut in sorted(rng.sample(range(len(file)), min(60, len(file)))):
-            check(calls.read_file(file[:cut], [], []).answer == ("refused", 12), "file cut to %d bytes" % cut)
-        check(calls.read_file(file + b"\0", [], []).answer == ("refused", 15), "a byte after the last field")
-        check(calls.read_file(file, [], []).answer == ("refused", 16), "coefficient slice of a wrong length")
-        short = calls.read_file(file, [9] * (length - 1), [7] * len(table.coefficients))
-        check(short.answer == ("refused", 17), "tree buffer too short")
-        check(short.lent["tree_out"] == [9] * (length - 1), "nothing written with 17")
-        check(set(short.lent["coefficients_out"]) == {7} and bytes(short.lent["file"]) == file, "nothing else written")
-    one, sides, tree = tablefile.field, tablefile.field(1, [1, 1]), tablefile.field(2, [0])
-    number = tablefile.coefficient_bytes
-    level_0 = one(16, number(5) * 16)
-    rest = one(17, b"") + one(18, b"") + one(19, b"")
-    cases = [
-        (12, b""), (12, b"\1"), (12, b"\7\0"), (12, sides), (13, b"\7\0\0"), (13, tree + sides), (14, one(1, [1])),
-        (14, one(1, [1, 1, 1])), (14, one(1, [], 3)), (12, one(1, [1], 2)), (12, one(1, [0], 2)), (1, one(1, [0, 1])),
-        (1, one(1, [1, 9])), (1, one(1, [255, 0]) + b"\7"), (12, sides + b"\7"), (14, sides + one(2, [])),
-        (14, sides + one(2, [], 1_366)), (12, sides + one(2, [0] * 9, 1_365)), (2, sides + one(2, [0] * 1_365)),
-        (2, sides + one(2, [1])), (2, sides + one(2, [4, 0, 0, 0])), (2, sides + one(2, [0, 0]) + b"\7"),
-        (12, sides + tree), (13, sides + tree + one(17, b"")), (14, sides + tree + one(16, number(5) * 15)),
-        (14, sides + tree + one(16, b"", 81)), (12, sides + tree + one(16, number(99_999), 80)),
-        (4, sides + tree + one(16, number(5) * 15 + number(32_001))),
-        (4, sides + tree + one(16, number(-32_001) * 16) + b"\7"), (4, sides + tree + one(16, b"\x80" * 80)),
-        (12, sides + tree + level_0), (14, sides + tree + level_0 + one(17, b"\0")),
-        (15, sides + tree + level_0 + rest + b"\0"),
-    ]
-    for due, file in cases:
-        check(calls.read_file(file, [], []).answer == ("refused", due), "file refused %d: %s" % (due, file[:16].hex()))
-    good = calls.read_file(sides + tree + level_0 + rest, [9], [7] * total_places(1, 1))
-    check(good.answer == ("ok", 1, 1, 1) and good.lent["coefficients_out"][:17] == [5] * 16 + [0], "the shortest file")
-    check(tablefile.coefficient_bytes(-1) == b"\xff" * 5 and number(258) == b"\0\0\0\1\2", "coefficient bytes")
-
-
-# Document 02, One: 'The file's length is returned', 'bytes past the file are untouched', 18; files written out by hand.
+# Document 02, One: 'The file's length is returned', 'bytes past the file are untouched', 18; Seven: the counts. Files
+# written out by hand, each in three parts: up to tag 2, the counts, and the rest. The old rule's have no counts.
 def saving(check: Check) -> None:
     s = bench_s()
     columns = ("fffffffc18", "0000000000", "00000003e8", "00000007d0")
-    file_s = "0100020101" + "02000100" + "100050" + "".join(columns) * 4 + "110000120000130000"
+    file_s = ("0100020101" + "02000100", "0010000000000000", "100050" + "".join(columns) * 4 + "110000120000130000")
     fine = inserted(s, (0, 0, 4, 4), 1)
     columns = ("ffffff8300", "0000000000", "0000007d00", "000000fa00", "0000017700")
     tree = "02000d" + "04040401" + "00" * 9
-    fine_s = "0100020101" + tree + "100000" + "11007d" + "".join(columns) * 5 + "120000130000"
+    fine_s = ("0100020101" + tree, "0000001900000000", "100000" + "11007d" + "".join(columns) * 5 + "120000130000")
     # 700 watts are 2bc, or af00 in units of 1/64 watt; 16 and 10 functions are active, 80 and 50 bytes.
     two = inserted(fresh_table(2, 1, 700), (0, 0, 4, 4), 1)
-    wide = "0100020201" + tree + "100050" + "00000002bc" * 16 + "110032" + "000000af00" * 10 + "120000130000"
-    # The limits of level 3 in five bytes, and -1; 4,489 functions are active, 22,445 bytes.
-    numbers = [32_000 * 64**3, -32_000 * 64**3, -1] + [0] * 4_486
-    whole = Table(8, 8, [3], [0] * 1_707 + numbers)
+    numbers = "100050" + "00000002bc" * 16 + "110032" + "000000af00" * 10 + "120000130000"
+    wide = ("0100020201" + tree, "0010000a00000000", numbers)
+    # The limits of level 3 in five bytes, and -1; 4,489 functions are active, 1189, in 22,445 bytes, 57ad.
+    whole = Table(8, 8, [3], [0] * 1_707 + [32_000 * 64**3, -32_000 * 64**3, -1] + [0] * 4_486)
     ends = "01f4000000" + "fe0c000000" + "ffffffffff" + "00" * 22_430
-    full = "0100020808" + "02000103" + "100000110000120000" + "1357ad" + ends
+    full = ("0100020808" + "02000103", "0000000000001189", "100000110000120000" + "1357ad" + ends)
     texts = [("S", s, file_s), ("S with a level 1 box", fine, fine_s), ("2 by 1", two, wide), ("tree 3", whole, full)]
-    check([len(text) // 2 for _, _, text in texts] == [101, 158, 163, 22_466], "lengths of files written out by hand")
-    for name, table, text in texts:
-        file, short = list(bytes.fromhex(text)), [8] * (len(text) // 2 - 1)
+    lengths = [len("".join(parts)) // 2 + 3 for _, _, parts in texts]
+    check(lengths == [112, 169, 174, 22_477], "lengths of files written out by hand")
+    check([n - 11 for n in lengths] == [101, 158, 163, 22_466], "lengths by the old rule")
+    for name, table, (front, counts, rest) in texts:
+        old, file = bytes.fromhex(front + rest), list(bytes.fromhex(front + "030008" + counts + rest))
+        check(tablefile.write_file(*table, counted=False) == old, "the file of %s by the old rule" % name)
+        for given in (old, bytes(file)):
+            check(tablefile.judge(given) == tuple(table), "%s is loaded from %d bytes" % (name, len(given)))
         for more in (0, 1, 9):
             outcome = calls.write_file(*table, [8] * (len(file) + more))
             check(outcome.answer == ("ok", len(file)), "length of the file of %s, %d bytes more lent" % (name, more))
             check(outcome.lent["file_out"] == file + [8] * more, "the file of %s, %d bytes more lent" % (name, more))
-        kept = {"tree": table.tree, "coefficients": table.coefficients, "file_out": short}
-        check(calls.write_file(*table, short) == (("refused", 18), kept), "a byte too short for the file of %s" % name)
-        first = next(place for place, limit in enumerate(table.surface().limits()) if limit is not None)
-        kept["coefficients"] = properties.with_number(table, first, 2**40).coefficients
-        over = calls.write_file(table.w, table.h, table.tree, kept["coefficients"], short)
-        check(over == (("refused", 4), kept), "4 and not 18 for the file of %s" % name)
+        # Too short by a byte, by part of the counts, and by all of them: the last was enough by the old rule.
+        for less in range(1, 12):
+            short = [8] * (len(file) - less)
+            kept = {"tree": table.tree, "coefficients": table.coefficients, "file_out": short}
+            outcome = calls.write_file(*table, short)
+            check(outcome == (("refused", 18), kept), "%d bytes too short for the file of %s" % (less, name))
+            first = next(place for place, limit in enumerate(table.surface().limits()) if limit is not None)
+            kept["coefficients"] = properties.with_number(table, first, 2**40).coefficients
+            over = calls.write_file(table.w, table.h, table.tree, kept["coefficients"], short)
+            check(over == (("refused", 4), kept), "4 and not 18 for the file of %s" % name)
+    longest = 5 + (3 + quadtree.GREATEST_TREE) + 4 * 3 + 5 * total_places(8, 8)
+    check((tablefile.GREATEST_UNCOUNTED, tablefile.GREATEST_FILE) == (longest, longest + 11), "no file is longer")
 
 
 # Document 01, Bench sheet: what the corner program prints.
 def corners(check: Check) -> None:
     lines = ["u v watts", "0 0 0", "1 0 1000", "0 1 0", "1 1 1000"]
-    check(calls.corner_lines(tablefile.write_file(*bench_s())) == lines, "corner program on S")
-    fine = inserted(inserted(bench_s(), (0, 0, 4, 4), 1), (1, 1, 4, 3), 3)
-    check(calls.corner_lines(tablefile.write_file(*fine)) == lines, "corner program on S refined")
-    wide = calls.corner_lines(tablefile.write_file(*fresh_table(2, 1, -3)))
     wide_lines = ["u v watts", "0 0 -3", "1 0 -3", "2 0 -3", "0 1 -3", "1 1 -3", "2 1 -3"]
-    check(wide == wide_lines, "corner program on 2 by 1")
+    fine = inserted(inserted(bench_s(), (0, 0, 4, 4), 1), (1, 1, 4, 3), 3)
+    for counted in (False, True):
+        file, refined, wide = (
+            tablefile.write_file(*table, counted=counted) for table in (bench_s(), fine, fresh_table(2, 1, -3))
+        )
+        check(calls.corner_lines(file) == lines, "corner program on S")
+        check(calls.corner_lines(refined) == lines, "corner program on S refined")
+        check(calls.corner_lines(wide) == wide_lines, "corner program on 2 by 1")
+        check(calls.corner_lines(file + b"\0" * 9) == ["refused 15"], "corner program, 15")
+    other = tablefile.write_file(*bench_s()).replace(bytes.fromhex("030008 0010"), bytes.fromhex("030008 0011"))
+    check(calls.corner_lines(other) == ["refused 20"], "corner program on a count of 17")
     check(calls.corner_lines(b"") == ["refused 12"], "corner program on an empty file")
-    check(calls.corner_lines(tablefile.write_file(*bench_s()) + b"\0" * 9) == ["refused 15"], "corner program, 15")
 
 
 # Document 01, Misreadings: each bench case that shows a misreading, besides the properties.
@@ -342,7 +295,9 @@ GROUPS = [
     ("bench sheet, the rest", unstarred),
     ("corner program", corners),
     ("refusals", refusals),
-    ("table files", files),
+    ("table files", file_cases.files),
+    ("counts in a file", file_cases.counts),
+    ("counts and other causes", file_cases.counts_in_order),
     ("saving a table", saving),
     ("splines", properties.splines),
     ("region trees", properties.trees),
@@ -354,9 +309,11 @@ GROUPS = [
     ("refinement", properties.refinement),
     ("saving and loading", properties.saving),
     ("saving what was loaded", properties.saving_again),
+    ("files of one table", saved_files.files_of_a_table),
+    ("fields of counts", saved_files.counts_bits),
     ("misreadings on the bench sheet", bench_misreadings),
     ("misreadings on the properties", properties.misreadings),
-    ("misreadings of saving", properties.saving_misreadings),
+    ("misreadings of saving", saved_files.saving_misreadings),
 ]
 
 

@@ -4,7 +4,7 @@ from __future__ import annotations
 from fractions import Fraction
 from math import ceil, floor
 from random import Random
-from typing import Callable, Dict, List, NamedTuple, Optional, Tuple
+from typing import Callable, List, Optional, Tuple
 
 import calls
 import samples
@@ -39,22 +39,6 @@ MISREADINGS = {
     "truncation against the next level only": Rules(truncation=NEXT_LEVEL),
     "no truncation": Rules(truncation=UNTRUNCATED),
     "weights over 16": Rules(weights_over=16),
-}
-
-
-class Saving(NamedTuple):
-    """How a table is saved, as documents 01 and 02 have it; any other setting is a misreading."""
-
-    passive_too: bool = False
-    number_bytes: Callable[[int], bytes] = tablefile.coefficient_bytes
-    length_of_output: bool = False
-
-
-SAVING_MISREADINGS = {
-    "passive zeros written too": Saving(passive_too=True),
-    "numbers low byte first": Saving(number_bytes=lambda number: number.to_bytes(5, "little", signed=True)),
-    "a number's size without its sign": Saving(number_bytes=lambda number: abs(number).to_bytes(5, "big")),
-    "the output's length for the file's": Saving(length_of_output=True),
 }
 
 
@@ -322,10 +306,13 @@ def saving(check: Check) -> None:
     for w, h in SMALL_SHEETS + LARGE_SHEETS:
         for table in near(rng, samples.random_table(rng, w, h)):
             active = sum(limit is not None for limit in table.surface().limits())
-            length = 20 + len(table.tree) + 5 * active
+            # Seven heads of 3; the sides, the tree, the counts, the coefficients. The old rule's length is 11 less.
+            length = 7 * 3 + 2 + len(table.tree) + 8 + 5 * active
             outcome = calls.write_file(*table, [8] * (length + 3))
             file = outcome.lent["file_out"][:length]
             check(outcome.answer == ("ok", length), "file length on %d by %d" % (w, h))
+            old = tablefile.write_file(*table, counted=False)
+            check(len(old) == length - 11, "file length of the old rule on %d by %d" % (w, h))
             check(outcome.lent["file_out"][length:] == [8] * 3, "bytes past the file on %d by %d" % (w, h))
             check(loaded(file) == table, "a saved table loads as it was on %d by %d" % (w, h))
             check(saved.setdefault(bytes(file), table) == table, "two tables have one file on %d by %d" % (w, h))
@@ -335,60 +322,22 @@ def saving(check: Check) -> None:
     check(len(saved) > 180, "only %d tables were saved" % len(saved))
 
 
-# Document 02, One: 'saving a loaded file reproduces its bytes'; of files with one bit turned over, where they load.
+# Document 02, One: 'saving a loaded file reproduces its bytes'; Seven: 'only of files that had' the counts, and others
+# get them. Of files with one bit turned over, where they load.
 def saving_again(check: Check) -> None:
-    rng, again = Random(20), 0
+    rng, again = Random(20), {True: 0, False: 0}
     for w, h in SMALL_SHEETS + LARGE_SHEETS:
-        file = list(tablefile.write_file(*samples.random_table(rng, w, h)))
-        for at in rng.sample(range(len(file)), 30):
-            other = file[:at] + [file[at] ^ 1 << rng.randrange(8)] + file[at + 1 :]
-            table = loaded(other)
-            if table is not None:
-                again += 1
-                outcome = calls.write_file(*table, [8] * len(other))
-                same = outcome.answer == ("ok", len(other)) and outcome.lent["file_out"] == other
-                check(same, "saving what was loaded on %d by %d" % (w, h))
-    check(again > 200, "only %d files were saved again" % again)
-
-
-# What is sent out where a table is saved in some way to an output: as many of its bytes as the length told.
-def sent(way: Saving, table: Table, out: List[int]) -> List[int]:
-    surface = table.surface()
-    file = tablefile.field(1, [table.w, table.h]) + tablefile.field(2, table.tree)
-    for level in LEVELS:
-        functions = surface.functions(level) if way.passive_too else surface.active_functions(level)
-        numbers = [table.coefficients[surface.place(level, i, j)] for i, j in functions]
-        file += tablefile.field(16 + level, b"".join(way.number_bytes(number) for number in numbers))
-    after = list(file) + out[len(file) :]
-    return after[: len(out) if way.length_of_output else len(file)]
-
-
-# Which of the properties of saving a way to save has, on tables that all differ.
-def saving_holds(way: Saving, tables: List[Table]) -> Dict[str, bool]:
-    room = [8] * 32_365
-    files = [sent(way, table, room) for table in tables]
-    published = [calls.write_file(*table, room) for table in tables]
-    return {
-        "loading": all(loaded(file) == table for file, table in zip(files, tables)),
-        "saving again": all(file == one.lent["file_out"][: one.answer[1]] for file, one in zip(files, published)),
-        "one file each": len(set(map(bytes, files))) == len(tables),
-        "any output": all(file == sent(way, table, room[:-1]) for file, table in zip(files, tables)),
-    }
-
-
-# On which properties each misreading of saving gives another answer than documents 01 and 02.
-def saving_misreadings(check: Check) -> None:
-    rng = Random(21)
-    tables = [one for w, h in ((1, 1), (3, 2)) for one in near(rng, samples.random_table(rng, w, h))]
-    check(all(saving_holds(Saving(), tables).values()), "saving as published")
-    shown_by = {
-        "passive zeros written too": {"loading", "saving again"},
-        "numbers low byte first": {"loading", "saving again"},
-        # Two tables that differ in a sign only then have one file.
-        "a number's size without its sign": {"loading", "saving again", "one file each"},
-        # What is sent then goes on after its last field.
-        "the output's length for the file's": {"loading", "saving again", "any output"},
-    }
-    for name, way in SAVING_MISREADINGS.items():
-        failing = {title for title, holds in saving_holds(way, tables).items() if not holds}
-        check(failing == shown_by[name], "%s shows on %s" % (name, sorted(failing)))
+        drawn = samples.random_table(rng, w, h)
+        for counted in (True, False):
+            file = list(tablefile.write_file(*drawn, counted=counted))
+            for at in rng.sample(range(len(file)), 30):
+                other = file[:at] + [file[at] ^ 1 << rng.randrange(8)] + file[at + 1 :]
+                table = loaded(other)
+                if table is not None:
+                    again[counted] += 1
+                    due = other if counted else list(tablefile.with_counts(bytes(other)))
+                    outcome = calls.write_file(*table, [8] * len(due))
+                    same = outcome.answer == ("ok", len(due)) and outcome.lent["file_out"] == due
+                    check(same, "saving what was loaded on %d by %d" % (w, h))
+                    check(counted or (len(due) == len(other) + 11 and due != other), "counts are added")
+    check(min(again.values()) > 200, "only %s files were saved again" % again)

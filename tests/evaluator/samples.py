@@ -1,4 +1,4 @@
-"""Random tables, boxes, insertions and points, made from a seeded generator."""
+"""Random tables, boxes, insertions and points, made from a seeded generator; the tables of the bench sheet."""
 from __future__ import annotations
 
 from random import Random
@@ -6,7 +6,7 @@ from typing import List, NamedTuple, Sequence, Tuple
 
 import calls
 import tree as quadtree
-from surface import LEVELS, QUARTERS_PER_CELL, STEPS_PER_CELL, TREE_SIDE, Box, LevelMap, Surface
+from surface import LEVELS, QUARTERS_PER_CELL, STEPS_PER_CELL, TREE_SIDE, Box, LevelMap, Surface, total_places
 
 Point = Tuple[int, int]
 
@@ -30,6 +30,29 @@ class Insertion(NamedTuple):
     level: int
     tree_out: List[int]
     coefficients_out: List[int]
+
+
+# A 1 by 1 table whose level 0 columns are the given ones, 'equal in all rows'.
+def columns_table(columns: Sequence[int]) -> Table:
+    return Table(1, 1, [0], list(columns) * 4 + [0] * (total_places(1, 1) - 16))
+
+
+# Document 01, Bench sheet: 'S is 1 by 1 with level 0 columns -1,000, 0, 1,000, 2,000'.
+def bench_s() -> Table:
+    return columns_table((-1_000, 0, 1_000, 2_000))
+
+
+def fresh_table(w: int, h: int, number: int) -> Table:
+    outcome = calls.fresh(w, h, number, [9], [7] * total_places(w, h))
+    return Table(w, h, outcome.lent["tree_out"], outcome.lent["coefficients_out"])
+
+
+def inserted(table: Table, box: Box, level: int) -> Table:
+    outcome = calls.insert(*table, box, level, [9] * quadtree.GREATEST_TREE, [7] * len(table.coefficients))
+    assert outcome.answer[0] == "ok"
+    return table._replace(
+        tree=outcome.lent["tree_out"][: outcome.answer[1]], coefficients=outcome.lent["coefficients_out"]
+    )
 
 
 def random_box(rng: Random, w: int, h: int) -> Box:

@@ -1,16 +1,27 @@
-"""The table file of document 01: the file of a table, and the judging of a file in byte order."""
+"""The table file of documents 01 and 02: the file of a table, and the judging of a file in byte order.
+
+Since document 02's request Seven a file may have a field of counts after the tree, and a file that is written has it.
+"""
 from __future__ import annotations
 
 from typing import List, NamedTuple, Optional, Sequence, Tuple, Union
 
 import tree as quadtree
-from surface import LEVELS, coefficient_limit, side_allowed
+from surface import LEVELS, Surface, coefficient_limit, side_allowed
 
 TAG_SIDES = 1
 TAG_TREE = 2
+TAG_COUNTS = 3
 TAG_LEVEL_0 = 16
 HEAD = 3
+SIDES_BYTES = 2
+COUNT_BYTES = 2
+COUNTS_BYTES = 8
 COEFFICIENT_BYTES = 5
+# No file is longer, with its counts and without: 5 bytes for the sides, 1,368 for the tree, 11 for the counts, four
+# heads of 3, and 5 for each of 6,196 coefficients.
+GREATEST_FILE = 32_376
+GREATEST_UNCOUNTED = 32_365
 
 
 class Content(NamedTuple):
@@ -33,22 +44,64 @@ def coefficient_bytes(coefficient: int) -> bytes:
     return coefficient.to_bytes(COEFFICIENT_BYTES, "big", signed=True)
 
 
-# Document 01, The table file: the six fields 'in this order, all present', of a table that need not be acceptable
-# in its coefficients but has a tree of the given form.
-def table_fields(w: int, h: int, tree: Sequence[int], coefficients: Sequence[int]) -> List[Tuple[int, bytes]]:
+# Document 02, Seven: 'eight bytes, four two-byte active counts, high byte first, levels 0 to 3'.
+def counts_body(surface: Surface) -> bytes:
+    return b"".join(len(surface.active_functions(level)).to_bytes(COUNT_BYTES, "big") for level in LEVELS)
+
+
+# The surface of a tree that is of the form of document 01.
+def _surface(w: int, h: int, tree: Sequence[int]) -> Surface:
     surface = quadtree.surface_over(w, h, tuple(tree))
     if surface is None:
         raise quadtree.Damaged("the tree is not of the form of document 01")
+    return surface
+
+
+# Document 01, The table file: the six fields 'in this order, all present', of a table that need not be acceptable
+# in its coefficients but has a tree of the given form. Document 02, Seven: 'a field of tag 3 after tag 2'; a file that
+# lacks it is one of the old rule.
+def table_fields(
+    w: int, h: int, tree: Sequence[int], coefficients: Sequence[int], counted: bool = True
+) -> List[Tuple[int, bytes]]:
+    surface = _surface(w, h, tree)
     fields = [(TAG_SIDES, bytes([w, h])), (TAG_TREE, bytes(tree))]
+    if counted:
+        fields.append((TAG_COUNTS, counts_body(surface)))
     for level in LEVELS:
         places = [surface.place(level, i, j) for i, j in surface.active_functions(level)]
         fields.append((TAG_LEVEL_0 + level, b"".join(coefficient_bytes(coefficients[p]) for p in places)))
     return fields
 
 
-# Document 01, The table file: the file of a table.
-def write_file(w: int, h: int, tree: Sequence[int], coefficients: Sequence[int]) -> bytes:
-    return b"".join(field(tag, body) for tag, body in table_fields(w, h, tree, coefficients))
+# Document 01, The table file: the file of a table. Document 02, Seven: 'The writer always puts it'; what the old rule
+# wrote has no counts.
+def write_file(w: int, h: int, tree: Sequence[int], coefficients: Sequence[int], counted: bool = True) -> bytes:
+    return b"".join(field(tag, body) for tag, body in table_fields(w, h, tree, coefficients, counted))
+
+
+# Where tag 2's field ends, of a file that is good so far.
+def tree_end(file: bytes) -> int:
+    at = HEAD + SIDES_BYTES
+    return at + HEAD + int.from_bytes(file[at + 1 : at + HEAD], "big")
+
+
+# Whether a file that loads has the counts.
+def is_counted(file: bytes) -> bool:
+    return file[tree_end(file)] == TAG_COUNTS
+
+
+# A file that loads and lacks the counts, with them added after tag 2.
+def with_counts(file: bytes) -> bytes:
+    end = tree_end(file)
+    w, h = file[HEAD : HEAD + SIDES_BYTES]
+    surface = _surface(w, h, file[HEAD + SIDES_BYTES + HEAD : end])
+    return file[:end] + field(TAG_COUNTS, counts_body(surface)) + file[end:]
+
+
+# A file that loads and has the counts, without that field.
+def without_counts(file: bytes) -> bytes:
+    end = tree_end(file)
+    return file[:end] + file[end + HEAD + COUNTS_BYTES :]
 
 
 class Refused(Exception):
@@ -66,10 +119,14 @@ class _Reader:
         self.file = file
         self.at = 0
 
-    def body(self, tag: int, least: int, greatest: int) -> bytes:
+    def head(self) -> bytes:
         head = self.file[self.at : self.at + HEAD]
         if len(head) < HEAD:
             raise Refused(12)
+        return head
+
+    def body(self, tag: int, least: int, greatest: int) -> bytes:
+        head = self.head()
         if head[0] != tag:
             raise Refused(13)
         length = int.from_bytes(head[1:], "big")
@@ -95,7 +152,7 @@ def _level_coefficients(body: bytes, level: int) -> List[int]:
 
 def _content(file: bytes) -> Content:
     reader = _Reader(file)
-    w, h = reader.body(TAG_SIDES, 2, 2)
+    w, h = reader.body(TAG_SIDES, SIDES_BYTES, SIDES_BYTES)
     if not (side_allowed(w) and side_allowed(h)):
         raise Refused(1)
     # 'Tag 2's length is 1 to 1,365.'
@@ -103,6 +160,11 @@ def _content(file: bytes) -> Content:
     surface = quadtree.surface_over(w, h, tuple(tree))
     if surface is None:
         raise Refused(2)
+    # Document 02, Seven: 'Files lacking it are still loaded.' So the tag of the next head is 3 or 16, else 13; 20, 'a
+    # count differs from the tree's, with the contents of tag 3', and tag 16 is due after it.
+    if reader.head()[0] == TAG_COUNTS:
+        if reader.body(TAG_COUNTS, COUNTS_BYTES, COUNTS_BYTES) != counts_body(surface):
+            raise Refused(20)
     coefficients = [0] * surface.total
     for level in LEVELS:
         functions = surface.active_functions(level)

@@ -50,6 +50,12 @@ def expected(content: tablefile.Content, u: int, v: int) -> List[str]:
     return lines + ["between %s and %s watts" % (shown(min(around)), shown(max(around)))]
 
 
+# What a program printed. A decimal counts as its f64 and its length: two with the fewest digits may be equally near.
+def known(lines: List[str]) -> List[object]:
+    words = [word for line in lines for word in line.split(" ") + ["\n"]]
+    return [(float(word), len(word)) if "." in word else word for word in words]
+
+
 # The program's answers at corners and random points of a table, compared; how many there were.
 def compare(program: str, file: Path, rng: Random) -> int:
     content = tablefile.judge(file.read_bytes())
@@ -61,7 +67,7 @@ def compare(program: str, file: Path, rng: Random) -> int:
     for u, v in points:
         given = subprocess.run([program, str(file), str(u), str(v)], capture_output=True, text=True)
         wanted = expected(content, u, v)
-        if given.returncode != 0 or given.stdout.splitlines() != wanted:
+        if given.returncode != 0 or known(given.stdout.splitlines()) != known(wanted):
             shown_wanted = "\n".join(wanted)
             sys.exit(f"around: {file} at {u} {v} gives\n{given.stdout}{given.stderr}instead of\n{shown_wanted}")
     return len(points)

@@ -1,20 +1,10 @@
 /* Makes every call of include/kiln.h on document 01's bench sheet, refused ones included.
    Prints a line for each thing that is not as the bench sheet says, and a count at the end. */
 #include "kiln.h"
+#include "held.h"
 
 #include <math.h>
-#include <stdio.h>
 #include <string.h>
-
-static int made, wrong;
-
-static void held(int good, const char *words) {
-  made++;
-  if (good) return;
-  wrong++;
-  printf("not held: %s\n", words);
-}
-#define HELD(condition) held(condition, #condition)
 
 enum { ONE = 211, FINE = 25 };  /* the places of 1 by 1, and of its level 1 */
 static const int64_t columns[4] = {-1000, 0, 1000, 2000}, fine_columns[5] = {-32000, 0, 32000, 64000, 96000};
@@ -149,41 +139,51 @@ static void trees(void) {
   HELD(kiln_fresh(1, 1, 0, NULL, 0, more, ONE, &length) == KILN_TREE_OUTPUT_SHORT);
 }
 
-/* "The table file": that of S read, and the same cut short by a byte, and none; and S written to it again. */
+/* "The table file": that of S read, with its counts and without them, and the same cut short by a byte, and none; and S
+   written to it again, with them. */
 static void file_of_s(void) {
-  static const uint8_t heads[12] = {1, 0, 2, 1, 1, 2, 0, 1, 0, 16, 0, 80}, tail[9] = {17, 0, 0, 18, 0, 0, 19, 0, 0};
-  uint8_t file[101];
+  static const uint8_t heads[23] = {1, 0, 2, 1, 1, 2, 0, 1, 0, 3, 0, 8, 0, 16, 0, 0, 0, 0, 0, 0, 16, 0, 80};
+  static const uint8_t tail[9] = {17, 0, 0, 18, 0, 0, 19, 0, 0};
+  uint8_t file[112], older[101];
   size_t w, h;
-  memcpy(file, heads, 12);
+  memcpy(file, heads, 23);
   for (size_t k = 0; k < 16; k++)
-    for (size_t b = 0; b < 5; b++) file[12 + 5 * k + b] = (uint8_t)((uint64_t)s[k] >> (8 * (4 - b)));
-  memcpy(file + 92, tail, 9);
-  HELD(kiln_file_places(file, 101) == ONE);
-  HELD(kiln_read_file(file, 101, tree, 1, more, ONE, &length, &w, &h) == KILN_DONE);
+    for (size_t b = 0; b < 5; b++) file[23 + 5 * k + b] = (uint8_t)((uint64_t)s[k] >> (8 * (4 - b)));
+  memcpy(file + 103, tail, 9);
+  memcpy(older, file, 9);
+  memcpy(older + 9, file + 20, 92);
+  HELD(kiln_file_places(file, 112) == ONE && kiln_file_places(older, 101) == ONE);
+  HELD(kiln_read_file(file, 112, tree, 1, more, ONE, &length, &w, &h) == KILN_DONE);
   HELD(length == 1 && w == 1 && h == 1 && tree[0] == 0 && !memcmp(more, s, sizeof s));
-  HELD(kiln_read_file(file, 100, tree, 1, more, ONE, &length, &w, &h) == KILN_FILE_ENDS);
+  HELD(kiln_read_file(file, 111, tree, 1, more, ONE, &length, &w, &h) == KILN_FILE_ENDS);
+  memset(more, 9, sizeof more);
+  HELD(kiln_read_file(older, 101, tree, 1, more, ONE, &length, &w, &h) == KILN_DONE);
+  HELD(length == 1 && w == 1 && h == 1 && tree[0] == 0 && !memcmp(more, s, sizeof s));
+  HELD(kiln_read_file(older, 100, tree, 1, more, ONE, &length, &w, &h) == KILN_FILE_ENDS);
   HELD(kiln_read_file(NULL, 0, NULL, 0, NULL, 0, &length, &w, &h) == KILN_FILE_ENDS);
   memset(out, 9, sizeof out);
   length = 7;
-  HELD(kiln_write_file(1, 1, flat, 1, s, ONE, out, 100, &length) == KILN_FILE_OUTPUT_SHORT);
+  HELD(kiln_write_file(1, 1, flat, 1, s, ONE, out, 111, &length) == KILN_FILE_OUTPUT_SHORT);
   HELD(kiln_write_file(1, 1, flat, 1, s, ONE, NULL, 0, &length) == KILN_FILE_OUTPUT_SHORT);
   HELD(length == 7 && nines(0));
-  HELD(kiln_write_file(1, 1, flat, 1, s, ONE, out, 101, &length) == KILN_DONE);
-  HELD(length == 101 && !memcmp(out, file, 101) && nines(101));
+  HELD(kiln_write_file(1, 1, flat, 1, s, ONE, out, 112, &length) == KILN_DONE);
+  HELD(length == 112 && !memcmp(out, file, 112) && nines(112));
 }
 
 /* "Each acceptable table has one file": that of S with level 1, 25 numbers after a tree of 13 bytes, read again; 18 is
    "judged last"; no file is longer than KILN_FILE_BYTES. */
 static void files_written(void) {
-  static const uint8_t heads[8] = {1, 0, 2, 1, 1, 2, 0, 13}, levels[6] = {16, 0, 0, 17, 0, 125};
+  static const uint8_t heads[8] = {1, 0, 2, 1, 1, 2, 0, 13};
+  static const uint8_t counts[11] = {3, 0, 8, 0, 0, 0, 25}, levels[6] = {16, 0, 0, 17, 0, 125};
+  static const uint8_t fine_counts[11] = {3, 0, 8, 0, 0, 0, 0, 0, 0, 0x11, 0x89};
   static const uint8_t lowest[5] = {255, 255, 255, 131, 0}, tail[6] = {18, 0, 0, 19, 0, 0};
   static const uint8_t limits[10] = {1, 0xf4, 0, 0, 0, 0xfe, 0x0c, 0, 0, 0};
   size_t w, h;
   memset(out, 9, sizeof out);
-  HELD(kiln_write_file(1, 1, level_1, 13, fine, ONE, out, KILN_FILE_BYTES, &length) == KILN_DONE && length == 158);
-  HELD(!memcmp(out, heads, 8) && !memcmp(out + 8, level_1, 13) && !memcmp(out + 21, levels, 6));
-  HELD(!memcmp(out + 27, lowest, 5) && !memcmp(out + 152, tail, 6) && nines(158));
-  HELD(kiln_read_file(out, 158, tree, sizeof tree, more, ONE, &length, &w, &h) == KILN_DONE && w == 1 && h == 1);
+  HELD(kiln_write_file(1, 1, level_1, 13, fine, ONE, out, KILN_FILE_BYTES, &length) == KILN_DONE && length == 169);
+  HELD(!memcmp(out, heads, 8) && !memcmp(out + 8, level_1, 13) && !memcmp(out + 21, counts, 11));
+  HELD(!memcmp(out + 32, levels, 6) && !memcmp(out + 38, lowest, 5) && !memcmp(out + 163, tail, 6) && nines(169));
+  HELD(kiln_read_file(out, 169, tree, sizeof tree, more, ONE, &length, &w, &h) == KILN_DONE && w == 1 && h == 1);
   HELD(length == 13 && !memcmp(tree, level_1, 13) && !memcmp(more, fine, sizeof fine));
   length = 7;
   memset(out, 9, sizeof out);
@@ -191,18 +191,18 @@ static void files_written(void) {
   HELD(kiln_write_file(1, 1, level_1, 12, fine, ONE, out, 9, &length) == KILN_TREE);
   HELD(kiln_write_file(1, 1, level_1, 13, fine, ONE - 1, out, 9, &length) == KILN_NUMBERS_LENGTH);
   more[16] = 2048001, more[0] = 1;
-  HELD(kiln_write_file(1, 1, level_1, 13, more, ONE, out, 157, &length) == KILN_COEFFICIENT_LIMIT);
+  HELD(kiln_write_file(1, 1, level_1, 13, more, ONE, out, 168, &length) == KILN_COEFFICIENT_LIMIT);
   more[16] = 2048000;
-  HELD(kiln_write_file(1, 1, level_1, 13, more, ONE, out, 157, &length) == KILN_PASSIVE_NOT_ZERO);
+  HELD(kiln_write_file(1, 1, level_1, 13, more, ONE, out, 168, &length) == KILN_PASSIVE_NOT_ZERO);
   more[0] = 0;
-  HELD(kiln_write_file(1, 1, level_1, 13, more, ONE, out, 157, &length) == KILN_FILE_OUTPUT_SHORT);
+  HELD(kiln_write_file(1, 1, level_1, 13, more, ONE, out, 168, &length) == KILN_FILE_OUTPUT_SHORT);
   HELD(length == 7 && nines(0));
   for (size_t k = 0; k < KILN_PLACES; k++) many[k] = k < 1707 ? 0 : -1;
   many[1707] = INT64_C(8388608000), many[1708] = -many[1707];  /* the limits of level 3 */
-  HELD(kiln_write_file(8, 8, whole_3, 1, many, KILN_PLACES, out, 22465, &length) == KILN_FILE_OUTPUT_SHORT);
-  HELD(kiln_write_file(8, 8, whole_3, 1, many, KILN_PLACES, out, 22466, &length) == KILN_DONE);
-  HELD(length == 22466 && out[18] == 19 && out[19] == 0x57 && out[20] == 0xad && nines(22466));
-  HELD(!memcmp(out + 21, limits, 10) && out[31] == 255 && out[22465] == 255);
+  HELD(kiln_write_file(8, 8, whole_3, 1, many, KILN_PLACES, out, 22476, &length) == KILN_FILE_OUTPUT_SHORT);
+  HELD(kiln_write_file(8, 8, whole_3, 1, many, KILN_PLACES, out, 22477, &length) == KILN_DONE);
+  HELD(length == 22477 && out[29] == 19 && out[30] == 0x57 && out[31] == 0xad && nines(22477));
+  HELD(!memcmp(out + 9, fine_counts, 11) && !memcmp(out + 32, limits, 10) && out[42] == 255 && out[22476] == 255);
 }
 
 int main(void) {
@@ -215,6 +215,5 @@ int main(void) {
   trees();
   file_of_s();
   files_written();
-  printf("calls from C: %d held, %d not\n", made - wrong, wrong);
-  return wrong != 0;
+  return all_held("calls from C");
 }

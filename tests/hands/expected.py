@@ -17,6 +17,7 @@ sys.path.insert(0, str(ROOT / "tests/evaluator"))
 import calls
 import tablefile
 import tree as quadtree
+from counted import active_counts
 
 POINT, TARIFF = (900, 200), 2_950
 BOX, LEVEL = (28, 4, 32, 8), 3
@@ -71,9 +72,11 @@ def saved(file: bytes) -> Tuple[List[str], bytes]:
     before, finer = shown("loaded", *content), refined(content)
     if isinstance(finer, int):
         return [before, f"refused {finer}"], b""
-    out = calls.write_file(*finer, [0] * 32_365)
+    out = calls.write_file(*finer, [0] * 32_376)
     length = out.answer[1]
-    return [before, f"saved: {length} bytes", shown("loaded again", *finer)], bytes(out.lent["file_out"][:length])
+    active = ", ".join(f"{count} of level {level}" for level, count in enumerate(active_counts(finer)))
+    told = [before, f"saved: {length} bytes", f"active: {active}", shown("loaded again", *finer)]
+    return told, bytes(out.lent["file_out"][:length])
 
 
 def main(name: str, to: str = "") -> None:

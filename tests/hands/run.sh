@@ -1,8 +1,8 @@
 #!/usr/bin/env bash
 # The library from C, C++ and Rust: what the archive needs and has; that C, Rust and the library agree on the types of
-# each call; every call on the bench sheet, plain and with a table in a struct; the header's version and words; the
-# examples, held to the evaluator; the Rust crate's doc tests. All that is C is built by gcc and clang, as C99 and as
-# C++11.
+# each call; every call on the bench sheet, plain and with a table in a struct; the counts in files; the header's
+# version and words; the examples, held to the evaluator; the Rust crate's doc tests. All that is C is built by gcc and
+# clang, as C99 and as C++11.
 #
 # Run as: tests/hands/run.sh
 set -euo pipefail
@@ -29,11 +29,12 @@ if [ "$needs" != "memcpy memset" ]; then
 fi
 types=$(python3 tests/hands/check_types.py "$archive") || { echo "$types"; exit 1; }
 
-# What the words and two examples must print, and what one of them must save, for each sample table and for one that is
-# cut short.
+# What the words and two examples must print, and what one of them must save, for each sample table, for one that is cut
+# short, and for one without its counts and with a wrong one.
 python3 tests/hands/rust_words.py >"$room/words.expected"
 head -c 100 tables/kiln-refined-near-top-heat.table >"$room/cut.table"
-files=(tables/*.table "$room/cut.table")
+python3 tests/hands/counted.py tables/kiln-unrefined.table "$room/without-counts.table" "$room/miscounted.table"
+files=(tables/*.table "$room/cut.table" "$room/without-counts.table" "$room/miscounted.table")
 rm -f "$room"/*.saved
 for file in "${files[@]}"; do
   name=$room/$(basename "$file")
@@ -74,6 +75,7 @@ for build in "${builds[@]}"; do
 
   calls=$("$into/calls") || { echo "${c[0]}: $calls"; exit 1; }
   structs=$("$into/structs") || { echo "${c[0]}: $structs"; exit 1; }
+  counts=$("$into/counts") || { echo "${c[0]}: $counts"; exit 1; }
   "$into/words" | diff "$room/words.expected" -
   for file in "${files[@]}"; do
     name=$room/$(basename "$file")
@@ -93,5 +95,5 @@ point=$(python3 tests/hands/check_point.py "${points[@]}") || { echo "$point"; e
 
 tests/hands/rust.sh
 
-echo "hands: $types; with each of ${#builds[@]} compilers $calls; $structs; $point;" \
+echo "hands: $types; with each of ${#builds[@]} compilers $calls; $structs; $counts; $point;" \
   "examples as expected on ${#files[@]} files"

@@ -64,8 +64,10 @@ fi
 in_crate build --offline --locked --examples || fail "an example does not build" "$log"
 examples=$root/target/cargo/debug/examples
 head -c 100 tables/kiln-refined-near-top-heat.table >"$room/cut.table"
-files=("$root"/tables/*.table "$room/cut.table")
-declare -A words=([6]="point off the sheet" [12]="file ends inside a head or body")
+python3 tests/hands/counted.py tables/kiln-unrefined.table "$room/without-counts.table" "$room/miscounted.table"
+files=("$root"/tables/*.table "$room/cut.table" "$room/without-counts.table" "$room/miscounted.table")
+declare -A words=([6]="point off the sheet" [12]="file ends inside a head or body"
+  [20]="count in a file differs from the tree's")
 declare -A seen=()
 
 # Runs an example, which must print what a file has but for the refusal there, which main shows.

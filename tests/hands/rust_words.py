@@ -11,6 +11,8 @@ from typing import Dict
 CRATE = Path(__file__).resolve().parents[2] / "rust"
 # One refusal in the crate's list: its number, its name and its words.
 REFUSAL = re.compile(r'^\s*(\d+)\s+\w+\s+"([^"\\]+)"\s*$', re.M)
+# The numbers of documents 01 and 02 that calls give so far; 19 is of a request that has not come.
+NUMBERS = [*range(1, 19), 20]
 # Its words for a number that is not in the list, where it has any. C's are the same less 'of the crate'.
 OTHER = re.compile(r'\bUnknown\b[^\n]*=> "([^"\\]+)"')
 NO_WORDS = "a cause that this version of the crate has no words for"
@@ -28,9 +30,8 @@ def refusal_words() -> Dict[int, str]:
     """The words of every number that a byte holds."""
     source = (CRATE / "src/refusal.rs").read_text(encoding="utf-8")
     found = [(int(number), words) for number, words in REFUSAL.findall(source)]
-    # Documents 01 and 02 have the numbers 1 to 18; later ones go on from there.
-    if len(found) < 18 or [number for number, _ in found] != list(range(1, len(found) + 1)):
-        raise ValueError("the Rust crate's refusals are not numbered from 1 on")
+    if [number for number, _ in found] != NUMBERS:
+        raise ValueError("the Rust crate's refusals are not numbered as the documents number them")
     other = (OTHER.findall(source) or [NO_WORDS])[0].replace(" of the crate", "")
     return {**{number: other for number in range(256)}, 0: "no refusal", **dict(found)}
 

@@ -2,20 +2,10 @@
    plain call of kiln.h on a refined table, at many points and boxes.
    Prints a line for each thing that is not as due, and a count at the end. */
 #include "kiln_table.h"
+#include "held.h"
 
 #include <math.h>
-#include <stdio.h>
 #include <string.h>
-
-static int made, wrong;
-
-static void held(int good, const char *words) {
-  made++;
-  if (good) return;
-  wrong++;
-  printf("not held: %s\n", words);
-}
-#define HELD(condition) held(condition, #condition)
 
 enum { ONE = 211, TWO = 341, FINE = 25 };  /* the places of 1 by 1, of 2 by 1, and of level 1 of 1 by 1 */
 static const uint8_t level_1[13] = {4, 4, 4, 1};
@@ -60,13 +50,15 @@ static size_t ones(size_t n) {
 }
 
 /* The file of S: "1 by 1 with level 0 columns -1,000, 0, 1,000, 2,000 (i = -3 to 0), equal in all rows". */
+enum { S_BYTES = 112 };
 static void file_of_s(uint8_t *file) {
-  static const uint8_t heads[12] = {1, 0, 2, 1, 1, 2, 0, 1, 0, 16, 0, 80}, tail[9] = {17, 0, 0, 18, 0, 0, 19, 0, 0};
+  static const uint8_t heads[23] = {1, 0, 2, 1, 1, 2, 0, 1, 0, 3, 0, 8, 0, 16, 0, 0, 0, 0, 0, 0, 16, 0, 80};
+  static const uint8_t tail[9] = {17, 0, 0, 18, 0, 0, 19, 0, 0};
   static const uint8_t columns[4][5] = {
     {255, 255, 255, 252, 24}, {0, 0, 0, 0, 0}, {0, 0, 0, 3, 232}, {0, 0, 0, 7, 208}};
-  memcpy(file, heads, 12);
-  for (size_t k = 0; k < 16; k++) memcpy(file + 12 + 5 * k, columns[k % 4], 5);
-  memcpy(file + 92, tail, 9);
+  memcpy(file, heads, 23);
+  for (size_t k = 0; k < 16; k++) memcpy(file + 23 + 5 * k, columns[k % 4], 5);
+  memcpy(file + 103, tail, 9);
 }
 
 /* Every place of both rooms holds 77, so that what is written shows. */
@@ -85,7 +77,7 @@ static int room_b_untouched(void) {
 
 /* "S at (64, 5): numerator 500 x D"; its corners are 0 at u 0 and 1,000 at u 128. */
 static void s_is_read(struct kiln_table *s) {
-  uint8_t file[101];
+  uint8_t file[S_BYTES];
   struct kiln_table other = {9, 9, NULL, 9, NULL, 9};
   struct kiln_room few = room_b, short_tree = room_b;
   int64_t numerator = 77, figure = 77;
@@ -93,13 +85,16 @@ static void s_is_read(struct kiln_table *s) {
   few.numbers_len = ONE - 1;
   short_tree.tree_len = 0;
   file_of_s(file);
-  HELD(kiln_table_read_file(file, 100, room_b, &other) == KILN_FILE_ENDS);
+  HELD(kiln_table_read_file(file, S_BYTES - 1, room_b, &other) == KILN_FILE_ENDS);
+  file[13] = 15;
+  HELD(kiln_table_read_file(file, S_BYTES, room_b, &other) == KILN_FILE_COUNT);
+  file[13] = 16;
   HELD(kiln_table_read_file(NULL, 0, room_b, &other) == KILN_FILE_ENDS);
-  HELD(kiln_table_read_file(file, 101, few, &other) == KILN_OUTPUT_LENGTH);
-  HELD(kiln_table_read_file(file, 101, short_tree, &other) == KILN_TREE_OUTPUT_SHORT);
+  HELD(kiln_table_read_file(file, S_BYTES, few, &other) == KILN_OUTPUT_LENGTH);
+  HELD(kiln_table_read_file(file, S_BYTES, short_tree, &other) == KILN_TREE_OUTPUT_SHORT);
   HELD(other.w == 9 && other.h == 9 && !other.tree && other.tree_len == 9 && !other.numbers && other.numbers_len == 9);
   HELD(room_b_untouched());
-  HELD(kiln_table_read_file(file, 101, room_a, s) == KILN_DONE && is(s, 1, 1, room_a, 1, ONE));
+  HELD(kiln_table_read_file(file, S_BYTES, room_a, s) == KILN_DONE && is(s, 1, 1, room_a, 1, ONE));
   HELD(tree_a[0] == 0 && tree_a[1] == 77 && numbers_a[0] == -1000 && numbers_a[15] == 2000 && numbers_a[16] == 0);
   HELD(numbers_a[ONE - 1] == 0 && numbers_a[ONE] == 77 && kiln_table_judge(s) == KILN_DONE);
   HELD(kiln_table_exact(s, at(64, 5), &numerator) == KILN_DONE && numerator == 500 * KILN_DENOMINATOR);
@@ -115,17 +110,17 @@ static void s_is_read(struct kiln_table *s) {
 /* "The file's length is returned"; "file output shorter than the file, judged last; bytes past the file are
    untouched". */
 static void s_is_written(const struct kiln_table *s) {
-  uint8_t file[101], out[104];
+  uint8_t file[S_BYTES], out[S_BYTES + 3];
   struct kiln_table other = *s;
   size_t length = 77;
   file_of_s(file);
   memset(out, 77, sizeof out);
   other.numbers_len = ONE - 1;
-  HELD(kiln_table_write_file(&other, out, 100, &length) == KILN_NUMBERS_LENGTH);
-  HELD(kiln_table_write_file(s, out, 100, &length) == KILN_FILE_OUTPUT_SHORT);
+  HELD(kiln_table_write_file(&other, out, S_BYTES - 1, &length) == KILN_NUMBERS_LENGTH);
+  HELD(kiln_table_write_file(s, out, S_BYTES - 1, &length) == KILN_FILE_OUTPUT_SHORT);
   HELD(length == 77 && out[0] == 77 && !memcmp(out, out + 1, sizeof out - 1));
-  HELD(kiln_table_write_file(s, out, sizeof out, &length) == KILN_DONE && length == 101);
-  HELD(!memcmp(out, file, 101) && out[101] == 77 && out[102] == 77 && out[103] == 77);
+  HELD(kiln_table_write_file(s, out, sizeof out, &length) == KILN_DONE && length == S_BYTES);
+  HELD(!memcmp(out, file, S_BYTES) && out[S_BYTES] == 77 && out[S_BYTES + 1] == 77 && out[S_BYTES + 2] == 77);
 }
 
 /* "S, level 1 box 0,0 to 4,4: tree 4 4 4 1 and nine 0; 25 active, columns ..."; "least level 1, 4 nodes". */
@@ -159,7 +154,8 @@ static void box_is_inserted(const struct kiln_table *s) {
   HELD(kiln_table_activity(&fine, 4, bytes, FINE) == KILN_LEVEL);
 }
 
-/* "2 by 1, the same box: 16 active at level 0, 10 at level 1. Box 0,0 to 8,4: least level 0, 5 nodes", 700 x D. */
+/* "2 by 1, the same box: 16 active at level 0, 10 at level 1. Box 0,0 to 8,4: least level 0, 5 nodes", 700 x D. This
+   file has no counts: "Files lacking it are still loaded." */
 static void two_by_one_from_file(void) {
   static const uint8_t heads[24] = {1, 0, 2, 2, 1, 2, 0, 13, 4, 4, 4, 1, 0, 0, 0, 0, 0, 0, 0, 0, 0, 16, 0, 80};
   static const uint8_t head_1[3] = {17, 0, 50}, tail[6] = {18, 0, 0, 19, 0, 0};
@@ -294,13 +290,13 @@ static void file_beside_plain(const struct kiln_table *table) {
 
 /* A sheet of 3 by 2 whose coefficients differ, refined twice: each table that is written, and each call on it. */
 static void beside_plain(void) {
-  uint8_t file[101];
+  uint8_t file[S_BYTES];
   struct kiln_table t;
   size_t length = 0, w = 0, h = 0;
   int same = 1;
   file_of_s(file);
-  HELD(kiln_table_read_file(file, 101, room_b, &t) == KILN_DONE);
-  HELD(kiln_read_file(file, 101, plain_tree, 1, plain_numbers, ONE, &length, &w, &h) == KILN_DONE);
+  HELD(kiln_table_read_file(file, S_BYTES, room_b, &t) == KILN_DONE);
+  HELD(kiln_read_file(file, S_BYTES, plain_tree, 1, plain_numbers, ONE, &length, &w, &h) == KILN_DONE);
   HELD(plain_is(&t, length) && t.w == w && t.h == h);
   HELD(kiln_table_fresh(sheet(3, 2), -9, room_a, &t) == KILN_DONE);
   HELD(kiln_fresh(3, 2, -9, plain_tree, 1, plain_numbers, kiln_places(3, 2), &length) == KILN_DONE);
@@ -333,6 +329,5 @@ int main(void) {
   one_is_set();
   costs();
   beside_plain();
-  printf("tables in a struct: %d held, %d not\n", made - wrong, wrong);
-  return wrong != 0;
+  return all_held("tables in a struct");
 }

@@ -24,7 +24,7 @@ LINES = {
     "Misreadings and wrong programs": ("must-fail", "refused by"),
     "Wrong programs of document 02's requests": ("must-fail", "refused by"),
 }
-REFUSALS = range(1, 19)
+REFUSALS = [*range(1, 19), 20]
 
 
 def declares(text: str, name: str, kind: str) -> bool:
