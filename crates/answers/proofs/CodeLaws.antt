@@ -1,5 +1,6 @@
 -- The codes and values of an answer that a call is known to have given.
 use mathlib.Core.Path.{_≡_, refl, sym, ap, ap₂, _∙_, subst}
+use mathlib.Core.Bool.{cond}
 use Prim.Native.Nat.{ℕ, zero, suc}
 use lib.IntN.{ℤ}
 use lib.Ieee.{Float}
@@ -8,11 +9,13 @@ use mir.Val.{SFits, toZ, ofZ}
 use mir.ValLaws.{toZ-ofZ}
 use Rattle.surface.specs.Calls.{Answer, refused, gives, answer, LeastLevel}
 use Rattle.surface.specs.FloatReading.{FloatMeets}
+use Rattle.surface.specs.Note.{NotePart}
 use Rattle.surface.specs.TableFile.{FileResult}
-use Rattle.answers.specs.Answers.{lengthAnswer}
+use Rattle.answers.specs.Answers.{lengthAnswer, noteTold}
+use Rattle.answers.specs.declared.Note.{Note}
 use Rattle.answers.specs.declared.Length.{Length}
 use Rattle.answers.specs.declared.Length.the-variants.{Bytes, Refused}
-use Rattle.answers.specs.Codes.{codeOf, NumberTold, LeastTold, WattsAfter, FileTold}
+use Rattle.answers.specs.Codes.{codeOf, NumberTold, LeastTold, WattsAfter, FileTold, NoteAfter}
 
 pub told-level : {o : Answer LeastLevel} (l v a b : ℕ) → gives (record { level = l; visited = v }) ≡ o
     → LeastTold o 0 a l b v
@@ -73,6 +76,17 @@ file-given n W H a b c e = subst (λ o. FileTold o 0 a n b W c H) e (refl, refl,
 
 pub file-refused : {o : Answer FileResult} (n a b c : ℕ) → refused n ≡ o → FileTold o n a a b b c c
 file-refused n a b c e = subst (λ o. FileTold o n a a b b c c) e (refl, refl, refl, refl)
+
+pub note-given : {A : Type 0} {o : Answer A} {p : NotePart} (a : A) (note : Note) (k n offset size : ℕ) → gives a ≡ o
+    → noteTold note ≡ p → k ≡ cond (note .stands) 1 0
+    → NoteAfter o p n k offset (note .offset) size (note .length)
+note-given {o} a note k n offset size e q b =
+    subst (λ p. NoteAfter o p n k offset (note .offset) size (note .length)) q
+    (subst (λ o. NoteAfter o (noteTold note) n k offset (note .offset) size (note .length)) e (b, refl, refl))
+
+pub note-refused : {A : Type 0} {o : Answer A} (p : NotePart) (k n offset size : ℕ) → refused k ≡ o
+    → NoteAfter o p n n offset offset size size
+note-refused p k n offset size e = subst (λ o. NoteAfter o p n n offset offset size size) e (refl, refl, refl)
 
 -- a code and the value beside it, told of the outcome by cause k, are that outcome: no refusal number is 0
 pub told : {A : Type 0} (k : ℕ) (a old new : A) (code : ℕ) → NumberTold (answer k a) code old new

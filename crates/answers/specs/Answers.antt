@@ -4,6 +4,7 @@ use lib.IntN.{ℤ}
 use lib.Ieee.{Float}
 use Rattle.surface.specs.Calls.{Answer, refused, gives, LeastLevel}
 use Rattle.surface.specs.TableFile.{FileResult}
+use Rattle.surface.specs.Note.{NotePart}
 use Rattle.answers.specs.declared.Outcome as OutcomeCases
 use Rattle.answers.specs.declared.Outcome.{Outcome}
 use Rattle.answers.specs.declared.Length as LengthCases
@@ -20,6 +21,7 @@ use Rattle.answers.specs.declared.Cost as CostCases
 use Rattle.answers.specs.declared.Cost.{Cost}
 use Rattle.answers.specs.declared.File as FileCases
 use Rattle.answers.specs.declared.File.{File}
+use Rattle.answers.specs.declared.Note.{Note}
 
 abbrev pub outcomeAnswer : Outcome → Answer (Unit {0})
 outcomeAnswer OutcomeCases.the-variants.Done = gives tt
@@ -52,3 +54,6 @@ costAnswer (CostCases.the-variants.Refused n) = refused n
 abbrev pub fileAnswer : File → Answer FileResult
 fileAnswer (FileCases.the-variants.Loaded n w h) = gives (record { treeLength = n; W = w; H = h })
 fileAnswer (FileCases.the-variants.Refused n) = refused n
+
+abbrev pub noteTold : Note → NotePart
+noteTold n = record { stands = n .stands; offset = n .offset; size = n .length }

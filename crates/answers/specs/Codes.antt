@@ -1,5 +1,6 @@
 -- What an answer is for another language: a refusal number, 0 for none, and values written through parameters.
 use mathlib.Core.Path.{_≡_}
+use mathlib.Core.Bool.{cond}
 use mathlib.Core.List.{List}
 use Prim.Native.Nat.{ℕ, _^_}
 use lib.IntN.{ℤ}
@@ -7,6 +8,7 @@ use lib.Ieee.{Float}
 use Rattle.surface.specs.Truncation.{D}
 use Rattle.surface.specs.Calls.{Answer, refused, gives, LeastLevel, Written, Done}
 use Rattle.surface.specs.FloatReading.{Near}
+use Rattle.surface.specs.Note.{NotePart}
 use Rattle.surface.specs.TableFile.{FileResult}
 
 -- the refusal number, 0 where the call gives its result
@@ -79,3 +81,11 @@ FileTold o code treeLength₀ treeLength w₀ w h₀ h =
 abbrev pub FileWritten : Written FileResult → ℕ → ℕ → ℕ → ℕ → ℕ → ℕ → ℕ → List ℕ → List ℤ → Type 0
 FileWritten o code treeLength₀ treeLength w₀ w h₀ h tree numbers =
     FileTold (o .result) code treeLength₀ treeLength w₀ w h₀ h × (tree ≡ o .tree) × (numbers ≡ o .numbers)
+
+-- what the bench loader leaves at its three further parameters, 1 or 0 at the first: the part that it tells of, where
+-- it gives its result
+abbrev pub NoteAfter : {A : Type 0} → Answer A → NotePart → ℕ → ℕ → ℕ → ℕ → ℕ → ℕ → Type 0
+NoteAfter o p noted₀ noted offset₀ offset size₀ size =
+    (noted ≡ orGiven (λ a. cond (p .stands) 1 0) o noted₀)
+    × (offset ≡ orGiven (λ a. p .offset) o offset₀)
+    × (size ≡ orGiven (λ a. p .size) o size₀)

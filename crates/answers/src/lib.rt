@@ -47,3 +47,16 @@ pub enum File {
     Loaded { length: usize, w: usize, h: usize },
     Refused(u8),
 }
+
+// Document 02: "whether a note stands there", and the part of the file that it is, which is empty where none stands.
+pub struct Note {
+    pub stands: bool,
+    pub offset: usize,
+    pub length: usize,
+}
+
+// The bench loader returns what file reading does, and the note.
+pub struct Bench {
+    pub file: File,
+    pub note: Note,
+}

@@ -17,11 +17,14 @@ use Rattle.surface.specs.Calls.{readingCause, exactOutcome, displayOutcome, cos
 use Rattle.surface.specs.Fields.{field, allWithin}
 use Rattle.surface.specs.TableFile.{sidesField, treeField, levelField, levelFields, fileContents, fileOutcome}
 use Rattle.surface.specs.TableFile.{countsAgree, countsField, levelBody, countsBody, fileWith}
+use Rattle.surface.specs.Note.{noteField}
+use Rattle.surface.specs.BenchLoading.{benchOutcome}
 use Rattle.surface.specs.Saving.{saveCause, saveOutcome}
 use Rattle.bench.specs.Bench.{Inserted, Visited, TwoByOne}
 use Rattle.bench.specs.Cases.{InsideCell, Children, Shortest, Longest, EastBox, LimitFirst, NewTree, Activity}
 use Rattle.bench.specs.Cases.{Sets, Fresh, LevelZero, SetsFine, Declined, LowestGiven, Costs, Files}
-use Rattle.bench.specs.Cases.{CountedFiles, SavedFiles, Heads, ContentsFirst}
+use Rattle.bench.specs.Cases.{CountedFiles, SavedFiles, NotedFiles, NotesRefused, SavedNotes, Heads}
+use Rattle.bench.specs.Cases.{ContentsFirst}
 
 -- ---- of the bench sheet
 
@@ -120,15 +123,15 @@ pub costs : Costs
 costs = (refl, refl, refl)
 
 pub files : Files
-unfolding fileOutcome fileContents sidesField treeField countsField levelField levelFields field activeCount activeInRow
-    activeBefore allWithin total count every leastUnder least eighths levels levelAt parse wellFormed start tableFrom
-    rowsFrom
+unfolding fileOutcome fileContents sidesField treeField countsField levelField levelFields noteField field activeCount
+    activeInRow activeBefore allWithin total count every leastUnder least eighths levels levelAt parse wellFormed start
+    tableFrom rowsFrom
 files = (refl, refl, refl, refl, refl, refl)
 
 pub counted-files : CountedFiles
-unfolding fileOutcome fileContents sidesField treeField countsField countsAgree levelField levelFields field activeCount
-    activeInRow activeBefore allWithin total count every leastUnder least eighths levels levelAt parse wellFormed start
-    tableFrom rowsFrom
+unfolding fileOutcome fileContents sidesField treeField countsField countsAgree levelField levelFields noteField field
+    activeCount activeInRow activeBefore allWithin total count every leastUnder least eighths levels levelAt parse
+    wellFormed start tableFrom rowsFrom
 counted-files = (refl, refl, refl, refl, refl, refl, refl, refl, refl, refl, refl, refl)
 
 pub saved-files : SavedFiles
@@ -136,6 +139,24 @@ unfolding saveOutcome saveCause fileWith countsBody levelBody joined activeCount
     regionCause withinLimits passiveZero every leastUnder least eighths levels levelAt parse wellFormed start
     coefficients
 saved-files = (refl, refl, refl, refl, refl)
+
+pub noted-files : NotedFiles
+unfolding benchOutcome fileOutcome fileContents sidesField treeField countsField levelField levelFields noteField field
+    activeCount activeInRow activeBefore allWithin total count every leastUnder least eighths levels levelAt parse
+    wellFormed start tableFrom rowsFrom
+noted-files = (refl, refl, refl, refl, refl, refl)
+
+pub notes-refused : NotesRefused
+unfolding fileOutcome fileContents sidesField treeField countsField levelField levelFields noteField field activeCount
+    activeInRow activeBefore allWithin total count every leastUnder least eighths levels levelAt parse wellFormed start
+    tableFrom rowsFrom
+notes-refused = (refl, refl, refl, refl, refl, refl, refl, refl, refl)
+
+pub saved-notes : SavedNotes
+unfolding saveOutcome saveCause fileWith countsBody levelBody joined activeCount activeInRow total count tableCause
+    regionCause withinLimits passiveZero every leastUnder least eighths levels levelAt parse wellFormed start
+    coefficients
+saved-notes = (refl, refl, refl, refl, refl)
 
 pub heads : Heads
 unfolding fileOutcome fileContents sidesField treeField countsField levelField levelFields field parse wellFormed

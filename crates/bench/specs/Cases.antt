@@ -1,6 +1,7 @@
 -- Further cases, for what the bench sheet leaves open: each would tell a misreading of document 01 from the words.
 -- Values that are not plain in the document were worked by an unrelated evaluator with fractions (tests/evaluator).
 use mathlib.Core.Path.{_≡_}
+use mathlib.Core.Bool.{true}
 use mathlib.Core.List.{List, [], _∷_, _++_}
 use Prim.Native.Nat.{ℕ, _+_, _*_, _^_, _%_}
 use lib.IntN.{ℤ, pos, negℤ}
@@ -10,7 +11,9 @@ use Rattle.surface.specs.Table.{levels, coefficients, tableCause}
 use Rattle.surface.specs.Patch.{patchReading}
 use Rattle.surface.specs.Calls.{refused, gives, freshOutcome, insertOutcome, setOutcome, activityOutcome}
 use Rattle.surface.specs.Calls.{leastOutcome, exactOutcome, displayOutcome, costOutcome, costOf}
+use Rattle.surface.specs.Note.{none, noted, NotePart, noPart}
 use Rattle.surface.specs.TableFile.{fileOutcome}
+use Rattle.surface.specs.BenchLoading.{Benched, benchOutcome}
 use Rattle.surface.specs.Saving.{saveOutcome}
 use Rattle.bench.specs.Bench.{rows, zeros, S, carriedS, flat, flat700, box, refined}
 
@@ -241,13 +244,64 @@ fileRefined =
 -- that is one byte shorter, "judged last": 4 comes before it. "Counts in the file": "The writer always puts it".
 abbrev pub SavedFiles : Type 0
 SavedFiles =
-    (saveOutcome 1 1 flat S (replicate 114 7)
+    (saveOutcome 1 1 flat S none (replicate 114 7)
     ≡ record { result = gives 112; after = countedS (counts 16 0 0 0) ++ (7 ∷ 7 ∷ []) })
-    × (saveOutcome 2 1 flat flat700 (replicate 132 7)
+    × (saveOutcome 2 1 flat flat700 none (replicate 132 7)
     ≡ record { result = gives 132; after = front700 ++ (counts 20 0 0 0 ++ levels700) })
-    × (saveOutcome 1 1 refined carriedS (replicate 169 7) ≡ record { result = gives 169; after = fileRefined })
-    × (saveOutcome 1 1 flat S (replicate 111 7) ≡ record { result = refused 18; after = replicate 111 7 })
-    × (saveOutcome 1 1 flat (pos 32001 ∷ zeros 210) (7 ∷ []) ≡ record { result = refused 4; after = 7 ∷ [] })
+    × (saveOutcome 1 1 refined carriedS none (replicate 169 7) ≡ record { result = gives 169; after = fileRefined })
+    × (saveOutcome 1 1 flat S none (replicate 111 7) ≡ record { result = refused 18; after = replicate 111 7 })
+    × (saveOutcome 1 1 flat (pos 32001 ∷ zeros 210) none (7 ∷ []) ≡ record { result = refused 4; after = 7 ∷ [] })
+
+-- Document 02, "A bench note": S's file of 101 bytes loads the same with a note after it. "kiln" stands from byte 104
+-- on; a note of no bytes stands there; 64 bytes are a note. "with none there, or a refused call, it says none".
+abbrev pub kiln : List ℕ
+kiln = 107 ∷ 105 ∷ 108 ∷ 110 ∷ []
+
+abbrev pub benchS : List ℕ → Benched
+benchS note = benchOutcome (fileS ++ note) (9 ∷ 8 ∷ []) (replicate 211 (pos 7))
+
+-- S, and this part of the file
+abbrev pub readS : NotePart → Benched
+readS part =
+    record {
+      loaded = record { result = gives (record { treeLength = 1; W = 1; H = 1 }); tree = 0 ∷ 8 ∷ []; numbers = S };
+      note = part;
+    }
+
+abbrev pub NotedFiles : Type 0
+NotedFiles =
+    (benchS (32 ∷ 0 ∷ 4 ∷ kiln) ≡ readS (record { stands = true; offset = 104; size = 4 }))
+    × (benchS (32 ∷ 0 ∷ 0 ∷ []) ≡ readS (record { stands = true; offset = 104; size = 0 }))
+    × (benchS (32 ∷ 0 ∷ 64 ∷ replicate 64 32) ≡ readS (record { stands = true; offset = 104; size = 64 }))
+    × (benchS [] ≡ readS noPart)
+    × (benchOutcome (fileS ++ (32 ∷ 0 ∷ 4 ∷ kiln)) (9 ∷ []) (pos 7 ∷ [])
+    ≡ record { loaded = record { result = refused 16; tree = 9 ∷ []; numbers = pos 7 ∷ [] }; note = noPart })
+    × (fileOutcome (fileS ++ (32 ∷ 0 ∷ 4 ∷ kiln)) (9 ∷ 8 ∷ []) (replicate 211 (pos 7)) ≡ readS noPart .loaded)
+
+-- "malformed under 12 or 14", all before 16: a cut head, a length above 64 before the body's end, a cut body. "a byte
+-- other than 32 is 15, and so is any byte past the note": also a second note. A note before tag 16 is 13.
+abbrev pub NotesRefused : Type 0
+NotesRefused =
+    (fileOutcome (fileS ++ (32 ∷ [])) [] [] .result ≡ refused 12)
+    × (fileOutcome (fileS ++ (32 ∷ 0 ∷ [])) [] [] .result ≡ refused 12)
+    × (fileOutcome (fileS ++ (32 ∷ 0 ∷ 65 ∷ kiln)) [] [] .result ≡ refused 14)
+    × (fileOutcome (fileS ++ (32 ∷ 1 ∷ 0 ∷ [])) [] [] .result ≡ refused 14)
+    × (fileOutcome (fileS ++ (32 ∷ 0 ∷ 5 ∷ kiln)) [] [] .result ≡ refused 12)
+    × (fileOutcome (fileS ++ (33 ∷ 0 ∷ 65 ∷ [])) [] [] .result ≡ refused 15)
+    × (fileOutcome (fileS ++ (32 ∷ 0 ∷ 3 ∷ kiln)) [] [] .result ≡ refused 15)
+    × (fileOutcome (fileS ++ (32 ∷ 0 ∷ 0 ∷ 32 ∷ 0 ∷ 0 ∷ [])) [] [] .result ≡ refused 15)
+    × (fileOutcome (frontS ++ (32 ∷ 0 ∷ 0 ∷ levelsS)) [] [] .result ≡ refused 13)
+
+-- "The writer takes a note or none; a lent note above 64 bytes gives 14": after 4, before 18, and nothing is written.
+abbrev pub SavedNotes : Type 0
+SavedNotes =
+    (saveOutcome 1 1 flat S (noted kiln) (replicate 120 7)
+    ≡ record { result = gives 119; after = countedS (counts 16 0 0 0) ++ (32 ∷ 0 ∷ 4 ∷ kiln) ++ (7 ∷ []) })
+    × (saveOutcome 1 1 flat S (noted []) (replicate 115 7)
+    ≡ record { result = gives 115; after = countedS (counts 16 0 0 0) ++ (32 ∷ 0 ∷ 0 ∷ []) })
+    × (saveOutcome 1 1 flat S (noted kiln) (replicate 118 7) ≡ record { result = refused 18; after = replicate 118 7 })
+    × (saveOutcome 1 1 flat S (noted (replicate 65 32)) (7 ∷ []) ≡ record { result = refused 14; after = 7 ∷ [] })
+    × (saveOutcome 1 1 flat (pos 32001 ∷ zeros 210) (noted (replicate 65 32)) [] .result ≡ refused 4)
 
 -- "whole head, tag, length, whole body, contents"
 abbrev pub Heads : Type 0

@@ -72,4 +72,5 @@ bench-lines =
 
 pub bench-text : BenchText
 unfolding cornerText tableText wholeWatts line decimal widthWithin
-bench-text counts = ap textOf (saved-loads counts 1 1 flat S S-acceptable .0) ∙ ap (λ l. header ++ l) bench-lines
+bench-text counts note fits =
+    ap textOf (saved-loads counts note 1 1 flat S S-acceptable fits .0) ∙ ap (λ l. header ++ l) bench-lines

@@ -32,10 +32,10 @@ fn places_of(w: usize, h: usize) -> usize
 fn places_named(file: &[u8]) -> usize
     ensures { λ r. ⌜ (r ≡ placesNamed (now (file .entry))) × (r ≤ 6196) ⌝ }
 {
-    if file.len() < loading::TREE_FIELD {
+    if file.len() < tablefile::TREE_FIELD {
         return 0;
     }
-    places_of(wide(file[loading::W]), wide(file[loading::H]))
+    places_of(wide(file[tablefile::W]), wide(file[tablefile::H]))
 }
 
 fn wide(b: u8) -> usize

@@ -1,28 +1,54 @@
-// The call that reads a table file: judged whole in byte order first, then written.
-mod judge;
+// The calls that read a table file: judged whole in byte order first, then written. The bench loader also tells of the
+// note; the controller's passes over it.
 mod load;
 
 use fields::Field;
 ghost use mathlib.Core.Path.{_≡_};
-ghost use Prim.Native.Nat.{_≤_};
+ghost use Prim.Native.Nat.{_+_, _≤_, _<_, min};
 ghost use lib.ListN.{drop};
+ghost use Rattle.surface.specs.Calls.{refused};
+ghost use Rattle.surface.specs.Note.{noPart, bytesIn};
 ghost use Rattle.surface.specs.TableFile.{levelFields};
-ghost use Rattle.demands.specs.FilePromises.{ReadPromise};
+ghost use Rattle.answers.specs.Answers.{fileAnswer, noteTold};
+ghost use Rattle.demands.specs.FilePromises.{ReadPromise, BenchPromise};
 ghost use Rattle.rows.specs.Rows.{levelsOf};
 ghost use Rattle.activity.specs.Counts.{Counted};
-ghost use Rattle.loading.specs.Judged.{sheetW, sheetH, Front, Head, endsAt, lastly};
+ghost use Rattle.judging.specs.Judged.{sheetW, sheetH, Front, Head, endsAt, partFrom, lastly};
 
-// Where the sides stand in a file: after the first head.
-pub const W: usize = fields::HEAD;
+// What is told where no note stands, and by a refused call.
+const NO_NOTE: answers::Note = answers::Note {
+    stands: false,
+    offset: 0,
+    length: 0,
+};
 
-pub const H: usize = W + 1;
+// A refused call tells of no note.
+fn refused(cause: u8) -> answers::Bench
+    ensures { λ r. ⌜ (fileAnswer (r .file) ≡ refused cause) × (noteTold (r .note) ≡ noPart) ⌝ }
+{
+    answers::Bench {
+        file: answers::File::Refused(cause),
+        note: NO_NOTE,
+    }
+}
 
-// Where the tree's field stands: after that of the sides; and the tree, after its head.
-pub const TREE_FIELD: usize = H + 1;
+// The note at a position of a file of so many bytes, which is all that follows it; none at the end of the file.
+fn note_at(at: usize, size: usize) -> answers::Note
+    requires { ⌜ (at ≤ size) × (at < size → at + 3 ≤ size) ⌝ }
+    ensures { λ r. ⌜ noteTold r ≡ partFrom at size ⌝ }
+{
+    let left = size - at;
+    if left < fields::HEAD {
+        return NO_NOTE;
+    }
+    answers::Note {
+        stands: true,
+        offset: at + fields::HEAD,
+        length: left - fields::HEAD,
+    }
+}
 
-const TREE: usize = TREE_FIELD + fields::HEAD;
-
-// "after the last field 15, 16, 17": the cause by what follows the levels, then those of the outputs.
+// "after the last field 15, 16, 17": the cause of what follows the levels, then those of the outputs.
 fn last_cause(
     after: u8,
     w: usize,
@@ -52,24 +78,27 @@ fn fill(
     h: usize,
     tree_out: &mut [u8],
     numbers_out: &mut [i64],
-) -> answers::File
+) -> answers::Bench
     requires { ⌜ Head (now file) end from w h (now rows)
         × endsAt (now file) last (levelFields w h (levelsOf (now rows)) 4 (drop from (now file))) ⌝ }
-    ensures { λ r. ⌜ ReadPromise (now (file .entry)) (now («tree_out» .entry)) (now («numbers_out» .entry)) r
+    ensures { λ r. ⌜ BenchPromise (now (file .entry)) (now («tree_out» .entry)) (now («numbers_out» .entry)) r
         (now («tree_out» .exit)) (now («numbers_out» .exit)) ⌝ }
 {
-    let bytes = end - TREE;
-    let after = judge::end_cause(file, last);
+    let bytes = end - tablefile::TREE;
+    let after = judging::end_cause(file, last);
     let cause = last_cause(after, w, h, bytes, tree_out, numbers_out);
     if cause != 0 {
-        return answers::File::Refused(cause);
+        return refused(cause);
     }
-    fields::put(&file[TREE..end], tree_out, 0);
+    fields::put(&file[tablefile::TREE..end], tree_out, 0);
     load::load_levels(file, from, rows, w, h, numbers_out);
-    answers::File::Loaded {
-        length: bytes,
-        w,
-        h,
+    answers::Bench {
+        file: answers::File::Loaded {
+            length: bytes,
+            w,
+            h,
+        },
+        note: note_at(last, file.len()),
     }
 }
 
@@ -85,14 +114,14 @@ fn read_levels(
     counts: [usize; 4],
     tree_out: &mut [u8],
     numbers_out: &mut [i64],
-) -> answers::File
+) -> answers::Bench
     requires { ⌜ Head (now file) end from w h (now rows) × Counted w h (levelsOf (now rows)) counts ⌝ }
-    ensures { λ r. ⌜ ReadPromise (now (file .entry)) (now («tree_out» .entry)) (now («numbers_out» .entry)) r
+    ensures { λ r. ⌜ BenchPromise (now (file .entry)) (now («tree_out» .entry)) (now («numbers_out» .entry)) r
         (now («tree_out» .exit)) (now («numbers_out» .exit)) ⌝ }
 {
-    let f = judge::levels_judge(file, from, counts);
+    let f = judging::levels_judge(file, from, counts);
     match f {
-        Field::Faulty(c) => answers::File::Refused(c),
+        Field::Faulty(c) => refused(c),
         Field::Body(last) => fill(file, end, from, last, rows, w, h, tree_out, numbers_out),
     }
 }
@@ -104,17 +133,17 @@ fn read_counted(
     rows: &[u32; 96],
     tree_out: &mut [u8],
     numbers_out: &mut [i64],
-) -> answers::File
+) -> answers::Bench
     requires { ⌜ Front (now file) end (sheetW (now file)) (sheetH (now file)) (now rows) ⌝ }
-    ensures { λ r. ⌜ ReadPromise (now (file .entry)) (now («tree_out» .entry)) (now («numbers_out» .entry)) r
+    ensures { λ r. ⌜ BenchPromise (now (file .entry)) (now («tree_out» .entry)) (now («numbers_out» .entry)) r
         (now («tree_out» .exit)) (now («numbers_out» .exit)) ⌝ }
 {
-    let w = file[W] as usize;
-    let h = file[H] as usize;
+    let w = file[tablefile::W] as usize;
+    let h = file[tablefile::H] as usize;
     let counts = activity::count::active_counts(rows, w, h);
-    let f = judge::counts_judge(file, end, counts);
+    let f = judging::counts_judge(file, end, counts);
     match f {
-        Field::Faulty(c) => answers::File::Refused(c),
+        Field::Faulty(c) => refused(c),
         Field::Body(from) => read_levels(
             file,
             end,
@@ -129,15 +158,47 @@ fn read_counted(
     }
 }
 
-// Reads a table file into a tree buffer and a coefficient slice, or refuses it and writes nothing.
+// Reads a table file into a tree buffer and a coefficient slice, and tells of its note; or refuses it, writes nothing
+// and tells of none.
+pub fn read_bench(file: &[u8], tree_out: &mut [u8], numbers_out: &mut [i64]) -> answers::Bench
+    ensures { λ r. ⌜ BenchPromise (now (file .entry)) (now («tree_out» .entry)) (now («numbers_out» .entry)) r
+        (now («tree_out» .exit)) (now («numbers_out» .exit)) ⌝ }
+{
+    let mut rows = [0u32; 96];
+    let f = judging::head_judge(file, &mut rows);
+    match f {
+        Field::Faulty(c) => refused(c),
+        Field::Body(end) => read_counted(file, end, &rows, tree_out, numbers_out),
+    }
+}
+
+// Reads a table file into a tree buffer and a coefficient slice, or refuses it and writes nothing. It passes over a
+// note.
 pub fn read_file(file: &[u8], tree_out: &mut [u8], numbers_out: &mut [i64]) -> answers::File
     ensures { λ r. ⌜ ReadPromise (now (file .entry)) (now («tree_out» .entry)) (now («numbers_out» .entry)) r
         (now («tree_out» .exit)) (now («numbers_out» .exit)) ⌝ }
 {
-    let mut rows = [0u32; 96];
-    let f = judge::head_judge(file, &mut rows);
-    match f {
-        Field::Faulty(c) => answers::File::Refused(c),
-        Field::Body(end) => read_counted(file, end, &rows, tree_out, numbers_out),
+    let r = read_bench(file, tree_out, numbers_out);
+    r.file
+}
+
+// The lesser of two numbers.
+fn least(a: usize, b: usize) -> usize
+    ensures { λ r. ⌜ r ≡ min a b ⌝ }
+{
+    if a < b {
+        return a;
     }
+    b
+}
+
+// The note as the part of the file that it is: what the bench loader told of, and empty where it told of none.
+pub fn note_in(file: &[u8], note: answers::Note) -> &[u8]
+    ensures { λ r. ⌜ now r ≡ bytesIn (now (file .entry)) (noteTold note) ⌝ }
+{
+    let size = file.len();
+    let from = least(note.offset, size);
+    let length = least(note.length, size - from);
+    let end = from + length;
+    &file[from..end]
 }

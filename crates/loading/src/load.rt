@@ -10,7 +10,7 @@ ghost use Rattle.surface.specs.Table.{places, slots};
 ghost use Rattle.surface.specs.TableFile.{levelLoaded};
 ghost use Rattle.rows.specs.Rows.{levelsOf, Nested};
 ghost use Rattle.loading.specs.Levels.{rowsBefore, rowLoaded};
-ghost use Rattle.loading.specs.Judged.{levelsHold};
+ghost use Rattle.judging.specs.Judged.{levelsHold};
 
 // Loads row b of a level from the numbers of the body from `next` on, and returns the place of the first number left.
 fn load_row(

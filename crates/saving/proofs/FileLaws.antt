@@ -15,7 +15,8 @@ use Rattle.surface.specs.Table.{_orElse_, levels, coefficients, tableCause}
 use Rattle.surface.specs.Calls.{put, done}
 use Rattle.surface.specs.Fields.{fieldBytes}
 use Rattle.surface.specs.TableFile.{countsBody, fileWith, fileOf}
-use Rattle.surface.specs.Saving.{fileOutCause, saveCause, saveOutcome}
+use Rattle.surface.specs.Note.{Note, noteBytes}
+use Rattle.surface.specs.Saving.{noteCause, fileOutCause, saveCause, saveOutcome}
 use Rattle.surface.proofs.TableLaws.{Sound, sides}
 use Rattle.tablefile.proofs.CountsField.{counts-length, counts-body-cong}
 use Rattle.tablefile.proofs.SavedLevels.{level-length, limit-small}
@@ -93,10 +94,11 @@ checked W H t cs rows s e =
 -- ---- the file of a table
 
 module _ (W H : ℕ) (hW : W ≤ 8) (hH : H ≤ 8) (t rows : List ℕ) (cs : List ℤ) (e : rows ≡ levelRows t) where
-  same-file : fileUnder W H t (levelsOf rows) (coefficients W H cs) ≡ fileOf W H t cs
+  same-file : (note : Note)
+      → fileUnder W H t (levelsOf rows) (coefficients W H cs) ++ noteBytes note ≡ fileOf note W H t cs
   unfolding fileWith fileUnder
-  same-file =
-      ap₂ (λ counts l. fieldBytes 1 (W ∷ H ∷ []) ++ fieldBytes 2 t ++ fieldBytes 3 counts ++ l)
+  same-file note =
+      ap₂ (λ counts l. fieldBytes 1 (W ∷ H ∷ []) ++ fieldBytes 2 t ++ fieldBytes 3 counts ++ l ++ noteBytes note)
       (counts-body-cong (activeCount W H (levelsOf rows)) (activeCount W H (levels t))
       λ L h. rows-count W H t rows L hW hH e)
       (joined-cong 4 (levelUnder W H (levelsOf rows) (coefficients W H cs))
@@ -106,10 +108,10 @@ module _ (W H : ℕ) (hW : W ≤ 8) (hH : H ≤ 8) (t rows : List ℕ) (cs : Lis
       λ a b ha hb. ap (λ l. bytesIf (eqb l L) (coefficients W H cs L a b)) (rows-least W H t rows L a b hW hH e)))
 
   -- and the outcome of writing it is that of saving the table
-  pub same-outcome : (out : List ℕ) → 0 ≡ tableCause W H t cs
-      → savedOutcome W H t (levelsOf rows) (coefficients W H cs) out ≡ saveOutcome W H t cs out
+  pub same-outcome : (note : Note) (out : List ℕ) → 0 ≡ tableCause W H t cs
+      → savedOutcome W H t (levelsOf rows) (coefficients W H cs) note out ≡ saveOutcome W H t cs note out
   unfolding saveOutcome saveCause
-  same-outcome out z =
-      ap (λ file. done (fileOutCause file out) (length file) (put file out) out) same-file
-      ∙ ap (λ c. done (c orElse fileOutCause (fileOf W H t cs) out) (length (fileOf W H t cs))
-      (put (fileOf W H t cs) out) out) z
+  same-outcome note out z =
+      let file = fileOf note W H t cs in
+      ap (λ file. done (noteCause note orElse fileOutCause file out) (length file) (put file out) out) (same-file note)
+      ∙ ap (λ c. done (c orElse noteCause note orElse fileOutCause file out) (length file) (put file out) out) z

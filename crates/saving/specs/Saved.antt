@@ -8,11 +8,12 @@ use lib.ListN.{length, getD}
 use Rattle.finite.specs.Range.{joined}
 use Rattle.surface.specs.Sheet.{functions}
 use Rattle.surface.specs.Support.{activeCount}
-use Rattle.surface.specs.Table.{slots, coefficients}
+use Rattle.surface.specs.Table.{_orElse_, slots, coefficients}
 use Rattle.surface.specs.Calls.{put, Done, done}
 use Rattle.surface.specs.Fields.{fieldBytes, numberBytes}
 use Rattle.surface.specs.TableFile.{levelBody, countsBody}
-use Rattle.surface.specs.Saving.{fileOutCause}
+use Rattle.surface.specs.Note.{Note, noteBytes}
+use Rattle.surface.specs.Saving.{noteCause, fileOutCause}
 use Rattle.rows.specs.Rows.{Nested}
 
 -- ---- a row
@@ -54,11 +55,12 @@ pub record Checked (W H : ℕ) (t : List ℕ) (cs : List ℤ) (rows : List ℕ) 
   pub spelt : (L : ℕ) → L < 4 → LevelSpelt W H (coefficients W H cs) L
   pub nested : Nested rows
 
--- the length by the tree's and by the counts: seven heads, two sides, the tree, eight bytes for the counts, five for
--- each active function
+-- the length up to a note by the tree's and by the counts: seven heads, two sides, the tree, eight bytes for the
+-- counts, five for each active function
 abbrev pub lengthBy : ℕ → List ℕ → ℕ
 lengthBy tree counts = 31 + tree + 5 * (getD counts 0 0 + getD counts 1 0 + getD counts 2 0 + getD counts 3 0)
 
+-- the file up to a note
 unfoldable pub fileUnder : ℕ → ℕ → List ℕ → (ℕ → ℕ → ℕ) → (ℕ → ℕ → ℕ → ℤ) → List ℕ
 fileUnder W H t lev coef =
     fieldBytes 1 (W ∷ H ∷ [])
@@ -66,8 +68,8 @@ fileUnder W H t lev coef =
     ++ fieldBytes 3 (countsBody (activeCount W H lev))
     ++ joined 4 (λ L. levelUnder W H lev coef L)
 
--- written if 18 does not apply
-abbrev pub savedOutcome : ℕ → ℕ → List ℕ → (ℕ → ℕ → ℕ) → (ℕ → ℕ → ℕ → ℤ) → List ℕ → Done ℕ ℕ
-savedOutcome W H t lev coef out =
-    let file = fileUnder W H t lev coef in
-    done (fileOutCause file out) (length file) (put file out) out
+-- with a note or none, written if 14 and 18 do not apply
+abbrev pub savedOutcome : ℕ → ℕ → List ℕ → (ℕ → ℕ → ℕ) → (ℕ → ℕ → ℕ → ℤ) → Note → List ℕ → Done ℕ ℕ
+savedOutcome W H t lev coef note out =
+    let file = fileUnder W H t lev coef ++ noteBytes note in
+    done (noteCause note orElse fileOutCause file out) (length file) (put file out) out

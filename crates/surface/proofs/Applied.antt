@@ -1,6 +1,6 @@
 -- The definitions applied to small cases, which compute: what a reader can work by hand from document 01.
 use mathlib.Core.Path.{_≡_, refl}
-use mathlib.Core.Bool.{_&&_, cond}
+use mathlib.Core.Bool.{true, false, _&&_, cond}
 use mathlib.Core.List.{List, [], _∷_, _++_}
 use Prim.Native.Nat.{ℕ, _+_, _*_, _^_}
 use lib.IntN.{pos, negℤ, _-ℤ_}
@@ -9,14 +9,17 @@ use lib.ListN.{drop, replicate}
 use Rattle.finite.specs.Range.{sum, every, count, total, least, tableFrom, joined}
 use Rattle.surface.specs.Sheet.{Box, eighths}
 use Rattle.surface.specs.Quadtree.{leaf, split, bytes, parse, wellFormed, levelAt, regionTree, visits}
-use Rattle.surface.specs.Support.{leastUnder, active, activeInRow, activeCount}
+use Rattle.surface.specs.Support.{leastUnder, active, activeInRow, activeCount, activeBefore}
 use Rattle.surface.specs.Spline.{cellOf, piece, splineAt}
 use Rattle.surface.specs.Truncation.{weight, truncated}
 use Rattle.surface.specs.Carry.{raised, carried}
 use Rattle.surface.specs.Table.{levels, start, coefficients, withinLimits, passiveZero, regionCause, tableCause}
-use Rattle.surface.specs.Calls.{gives, wholeWatts}
-use Rattle.surface.specs.Fields.{Judged, declined, Part, holds, field}
-use Rattle.surface.specs.TableFile.{countsAgree, countsField, levelBody, countsBody, fileWith}
+use Rattle.surface.specs.Calls.{Answer, refused, gives, wholeWatts}
+use Rattle.surface.specs.Fields.{Judged, declined, Part, holds, field, allWithin}
+use Rattle.surface.specs.Note.{none, noted, noteField, NotePart, noPart}
+use Rattle.surface.specs.TableFile.{sidesField, treeField, countsAgree, countsField, levelField, levelFields}
+use Rattle.surface.specs.TableFile.{fileContents, FileResult, fileOutcome, levelBody, countsBody, fileWith}
+use Rattle.surface.specs.BenchLoading.{benchOutcome}
 use Rattle.surface.specs.Saving.{saveCause, saveOutcome}
 
 -- ---- the far edge
@@ -117,17 +120,75 @@ pub counts-judged : (judgedFlat (3 ∷ 0 ∷ 8 ∷ sixteen ++ 16 ∷ []) ≡ hol
 unfolding countsField countsAgree field activeCount activeInRow every total count leastUnder least eighths
 counts-judged = (refl, refl, refl, refl, refl, refl, refl)
 
+-- ---- the note in a file
+
+-- Nothing, or another byte, is left for the end; a note of no bytes is not none, and what follows a note is left; a
+-- head or a body that is not whole is 12, a length above 64 is 14 before it, and 64 bytes are a note.
+pub note-judged : (noteField [] ≡ holds none [])
+    × (noteField (31 ∷ []) ≡ holds none (31 ∷ []))
+    × (noteField (32 ∷ 0 ∷ 0 ∷ []) ≡ holds (noted []) [])
+    × (noteField (32 ∷ 0 ∷ 2 ∷ 7 ∷ 8 ∷ 32 ∷ []) ≡ holds (noted (7 ∷ 8 ∷ [])) (32 ∷ []))
+    × (noteField (32 ∷ 0 ∷ []) ≡ declined 12)
+    × (noteField (32 ∷ 0 ∷ 2 ∷ 7 ∷ []) ≡ declined 12)
+    × (noteField (32 ∷ 0 ∷ 65 ∷ []) ≡ declined 14)
+    × (noteField (32 ∷ 0 ∷ 64 ∷ replicate 64 7) ≡ holds (noted (replicate 64 7)) [])
+unfolding noteField field
+note-judged = (refl, refl, refl, refl, refl, refl, refl, refl)
+
+-- the file of a 1 by 1 table of zeros without the counts, 101 bytes, and these after it
+abbrev zerosThen : List ℕ → List ℕ
+zerosThen x = fileWith false none 1 1 (0 ∷ []) (replicate 211 (pos 0)) ++ x
+
+-- the bench loader's answer and the note it tells of, with so many places to write to
+abbrev told : List ℕ → ℕ → Answer FileResult × NotePart
+told x n = let o = benchOutcome (zerosThen x) (9 ∷ []) (replicate n (pos 9)) in (o .loaded .result, o .note)
+
+abbrev readZeros : Answer FileResult
+readZeros = gives (record { treeLength = 1; W = 1; H = 1 })
+
+-- Where the note stands in the file; an empty one is not none; the note is judged before 16, and a refused call says
+-- none.
+pub note-told : (told (32 ∷ 0 ∷ 2 ∷ 7 ∷ 8 ∷ []) 211 ≡ (readZeros, record { stands = true; offset = 104; size = 2 }))
+    × (told (32 ∷ 0 ∷ 0 ∷ []) 211 ≡ (readZeros, record { stands = true; offset = 104; size = 0 }))
+    × (told [] 211 ≡ (readZeros, noPart))
+    × (told (32 ∷ 0 ∷ 2 ∷ 7 ∷ 8 ∷ []) 210 ≡ (refused 16, noPart))
+    × (told (32 ∷ 0 ∷ 65 ∷ []) 210 ≡ (refused 14, noPart))
+    × (told (32 ∷ 0 ∷ 0 ∷ 9 ∷ []) 210 ≡ (refused 15, noPart))
+    × (told (19 ∷ []) 210 ≡ (refused 15, noPart))
+unfolding benchOutcome fileOutcome fileContents sidesField treeField countsField levelFields levelField noteField field
+    allWithin wellFormed parse levels levelAt fileWith levelBody joined coefficients start activeCount activeInRow
+    activeBefore total count every leastUnder least eighths tableFrom
+note-told = (refl, refl, refl, refl, refl, refl, refl)
+
 -- ---- saving
 
 -- 18 is "judged last": a coefficient past its limit comes before an output that is too short
-pub eighteen-last : saveCause 1 1 (0 ∷ []) (pos 32001 ∷ replicate 210 (pos 0)) [] ≡ 4
+pub eighteen-last : saveCause 1 1 (0 ∷ []) (pos 32001 ∷ replicate 210 (pos 0)) none [] ≡ 4
 unfolding saveCause tableCause regionCause withinLimits passiveZero every leastUnder least eighths levels levelAt parse
     wellFormed start coefficients fileWith countsBody activeCount activeInRow total count levelBody joined
 eighteen-last = refl
 
 -- "bytes past the file are untouched": the file of a 1 by 1 table of zeros has 112, 11 of them for the counts
-pub past-the-file : (saveOutcome 1 1 (0 ∷ []) (replicate 211 (pos 0)) (replicate 114 7) .result ≡ gives 112)
-    × (drop 112 (saveOutcome 1 1 (0 ∷ []) (replicate 211 (pos 0)) (replicate 114 7) .after) ≡ 7 ∷ 7 ∷ [])
+pub past-the-file : (saveOutcome 1 1 (0 ∷ []) (replicate 211 (pos 0)) none (replicate 114 7) .result ≡ gives 112)
+    × (drop 112 (saveOutcome 1 1 (0 ∷ []) (replicate 211 (pos 0)) none (replicate 114 7) .after) ≡ 7 ∷ 7 ∷ [])
 unfolding saveOutcome saveCause tableCause regionCause withinLimits passiveZero every leastUnder least eighths levels
     levelAt parse wellFormed start coefficients fileWith countsBody activeCount activeInRow total count levelBody joined
 past-the-file = (refl, refl)
+
+-- 14 comes after the table's causes and before 18; 64 bytes are no cause for it
+pub long-note : (saveCause 1 1 (0 ∷ []) (replicate 211 (pos 0)) (noted (replicate 65 7)) [] ≡ 14)
+    × (saveCause 1 1 (0 ∷ []) (pos 32001 ∷ replicate 210 (pos 0)) (noted (replicate 65 7)) [] ≡ 4)
+    × (saveCause 1 1 (0 ∷ []) (replicate 211 (pos 0)) (noted (replicate 64 7)) [] ≡ 18)
+unfolding saveCause tableCause regionCause withinLimits passiveZero every leastUnder least eighths levels levelAt parse
+    wellFormed start coefficients fileWith countsBody activeCount activeInRow total count levelBody joined
+long-note = (refl, refl, refl)
+
+-- The note is last; an output that has no room for it is too short.
+pub note-written : (saveOutcome 1 1 (0 ∷ []) (replicate 211 (pos 0)) (noted (7 ∷ [])) (replicate 117 9) .result
+    ≡ gives 116)
+    × (drop 112 (saveOutcome 1 1 (0 ∷ []) (replicate 211 (pos 0)) (noted (7 ∷ [])) (replicate 117 9) .after)
+    ≡ 32 ∷ 0 ∷ 1 ∷ 7 ∷ 9 ∷ [])
+    × (saveOutcome 1 1 (0 ∷ []) (replicate 211 (pos 0)) (noted (7 ∷ [])) (replicate 115 9) .result ≡ refused 18)
+unfolding saveOutcome saveCause tableCause regionCause withinLimits passiveZero every leastUnder least eighths levels
+    levelAt parse wellFormed start coefficients fileWith countsBody activeCount activeInRow total count levelBody joined
+note-written = (refl, refl, refl)

@@ -1,5 +1,6 @@
--- The refusals of file reading and of saving: each has one of the call's numbers; what is not declined fills its slice.
-use mathlib.Core.Path.{_≡_, refl, _∙_, subst}
+-- The refusals of file reading, by either loader, and of saving: each has one of the call's numbers; what is not
+-- declined fills its slice.
+use mathlib.Core.Path.{_≡_, refl, ap, _∙_, subst}
 use mathlib.Core.Bool.{Bool, true, false, not, _&&_, cond}
 use mathlib.Core.List.{List, [], _∷_}
 use Prim.Native.Nat.{ℕ, zero, suc, _+_, _*_, _≤_}
@@ -17,14 +18,16 @@ use Rattle.surface.specs.Table.{limit, tableCause}
 use Rattle.surface.specs.Calls.{put}
 use Rattle.surface.specs.Fields.{Judged, declined, contains, unless, Part, holds, inPart, lengthAt, field}
 use Rattle.surface.specs.Fields.{checked, allWithin}
+use Rattle.surface.specs.Note.{Note, none, noted, noteFits, noteField}
 use Rattle.surface.specs.TableFile.{sidesIn, goodSides, sidesField, treeField, countsAgree, countsField, loaded}
 use Rattle.surface.specs.TableFile.{levelLoaded, levelField, levelFields, Loaded, File, endCause, fileContents}
 use Rattle.surface.specs.TableFile.{fileOutcomeOf, fileOutcome, fileOf}
-use Rattle.surface.specs.Saving.{saveCause, saveOutcome}
-use Rattle.surface.specs.Demands.{among, WritesAllOrNothing, WritesSliceOrNothing}
+use Rattle.surface.specs.BenchLoading.{noteOf, notePart, benchOutcome}
+use Rattle.surface.specs.Saving.{noteCause, fileOutCause, saveCause, saveOutcome}
+use Rattle.surface.specs.Demands.{among, WritesAllOrNothing, WritesSliceOrNothing, TellsNote}
 use Rattle.surface.proofs.RefusalLaws.{OneOf, one-or, one-cause, one-table, put-length}
 use Rattle.surface.proofs.RefusalLaws.{slice-or-nothing, table-or-nothing}
-use Rattle.surface.proofs.Causes.{orElse-none, cause-off}
+use Rattle.surface.proofs.Causes.{orElse-none, cause-none, cause-off}
 
 abbrev js-file : List ℕ
 js-file = 1 ∷ 2 ∷ 4 ∷ 12 ∷ 13 ∷ 14 ∷ 15 ∷ 16 ∷ 17 ∷ 20 ∷ []
@@ -81,6 +84,16 @@ told-counts n s = go (eqb (getD s 0 0) 3)
     go true = told-checked (λ p. Unit) 3 8 8 20 (countsAgree n) (λ b. b) s refl λ b rest. tt
     go false = good tt
 
+-- a note, or none
+told-note : (s : List ℕ) → Told (Part Note) (λ p. Unit) (noteField s)
+unfolding noteField
+told-note s = go (eqb (getD s 0 0) 32)
+  where
+    go : (t : Bool)
+        → Told (Part Note) (λ p. Unit) (cond t (inPart (field 32 0 64 s) λ b rest. holds (noted b) rest) (holds none s))
+    go true = told-in (λ p. Unit) (λ p. Unit) (field 32 0 64 s) _ (told-field 32 0 64 s) λ p u. good tt
+    go false = good tt
+
 -- the levels below n fill their part of the slice
 abbrev Fills : ℕ → ℕ → ℕ → Part (List ℤ) → Type 0
 Fills W H n p = length (p .content) ≡ start W H n
@@ -125,7 +138,8 @@ told-file s =
     (told-counts (activeCount W H (levels (t .content))) (t .rest))
     λ c w. told-in filled (Fills W H 4) (levelFields W H (levels (t .content)) 4 (c .rest)) _
     (told-levels W H (levels (t .content)) 4 (c .rest))
-    λ cs h. told-unless filled (endCause (cs .rest)) _ (one-cause 15 (ltb 0 (length (cs .rest))) js-file refl) (good h)
+    λ cs h. told-in filled (λ p. Unit) (noteField (cs .rest)) _ (told-note (cs .rest))
+    λ n x. told-unless filled (endCause (n .rest)) _ (one-cause 15 (ltb 0 (length (n .rest))) js-file refl) (good h)
 
 pub file-refusals : (s treeOut : List ℕ) (numbersOut : List ℤ)
     → WritesAllOrNothing js-file (fileOutcome s treeOut numbersOut) treeOut numbersOut
@@ -143,25 +157,39 @@ file-refusals s treeOut numbersOut = go (fileContents s) (told-file s)
     go (contains f) (good h) =
         table-or-nothing js-file 0 (f .W) (f .H) _ (f .tree) (f .numbers) treeOut numbersOut refl refl refl h
 
+-- a refused call says that there is no note
+pub bench-refusals : (s treeOut : List ℕ) (numbersOut : List ℤ)
+    → WritesAllOrNothing js-file (benchOutcome s treeOut numbersOut .loaded) treeOut numbersOut
+    × TellsNote (benchOutcome s treeOut numbersOut)
+unfolding benchOutcome
+bench-refusals s treeOut numbersOut =
+    (file-refusals s treeOut numbersOut, λ n e. ap (λ r. notePart r s (noteOf (fileContents s))) e)
+
 -- ---- saving
 
--- an output that 18 does not apply to holds the file
-pub file-fits : (W H : ℕ) (t : List ℕ) (cs : List ℤ) (out : List ℕ) → saveCause W H t cs out ≡ 0
-    → length (fileOf W H t cs) ≤ length out
+-- an output that 18 does not apply to holds the file, and a note that 14 does not apply to fits
+pub file-fits : (W H : ℕ) (t : List ℕ) (cs : List ℤ) (note : Note) (out : List ℕ) → saveCause W H t cs note out ≡ 0
+    → (length (fileOf note W H t cs) ≤ length out) × (noteFits note ≡ true)
 unfolding saveCause
-file-fits W H t cs out e =
-    let short = ltb (length out) (length (fileOf W H t cs)) in
-    ltb-false (length out) (length (fileOf W H t cs))
-    (cause-off 17 short (orElse-none (tableCause W H t cs) (cause 18 short) e .1))
-
-pub save-refusals : (W H : ℕ) (t : List ℕ) (cs : List ℤ) (out : List ℕ)
-    → WritesSliceOrNothing (1 ∷ 2 ∷ 3 ∷ 4 ∷ 5 ∷ 18 ∷ []) (saveOutcome W H t cs out) out
-unfolding saveOutcome saveCause
-save-refusals W H t cs out =
-    let js : List ℕ = 1 ∷ 2 ∷ 3 ∷ 4 ∷ 5 ∷ 18 ∷ [] in
-    let file = fileOf W H t cs in
+file-fits W H t cs note out e =
+    let file = fileOf note W H t cs in
     let short = ltb (length out) (length file) in
-    slice-or-nothing js (saveCause W H t cs out) (length file) out (put file out)
-    (one-or (tableCause W H t cs) (cause 18 short) js (one-table js refl refl refl refl refl W H t cs)
-    (one-cause 18 short js refl))
-    (λ e. put-length file out (file-fits W H t cs out e))
+    let late = orElse-none (tableCause W H t cs) (noteCause note orElse fileOutCause file out) e .1 in
+    let last = orElse-none (noteCause note) (fileOutCause file out) late in
+    (ltb-false (length out) (length file) (cause-off 17 short (last .1)), cause-none 13 (noteFits note) (last .0))
+
+abbrev js-save : List ℕ
+js-save = 1 ∷ 2 ∷ 3 ∷ 4 ∷ 5 ∷ 14 ∷ 18 ∷ []
+
+pub save-refusals : (W H : ℕ) (t : List ℕ) (cs : List ℤ) (note : Note) (out : List ℕ)
+    → WritesSliceOrNothing js-save (saveOutcome W H t cs note out) out
+unfolding saveOutcome saveCause
+save-refusals W H t cs note out =
+    let file = fileOf note W H t cs in
+    let short = ltb (length out) (length file) in
+    slice-or-nothing js-save (saveCause W H t cs note out) (length file) out (put file out)
+    (one-or (tableCause W H t cs) (noteCause note orElse fileOutCause file out) js-save
+    (one-table js-save refl refl refl refl refl W H t cs)
+    (one-or (noteCause note) (fileOutCause file out) js-save (one-cause 14 (not (noteFits note)) js-save refl)
+    (one-cause 18 short js-save refl)))
+    (λ e. put-length file out (file-fits W H t cs note out e .0))

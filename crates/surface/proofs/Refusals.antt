@@ -31,7 +31,7 @@ use Rattle.surface.proofs.TableLaws.{slice-length}
 use Rattle.surface.proofs.Causes.{orElse-assoc, orElse-none, cause-none}
 use Rattle.surface.proofs.RefusalLaws.{one-or, one-cause, one-region, one-table, one-reading, sent}
 use Rattle.surface.proofs.RefusalLaws.{slice-or-nothing, table-or-nothing}
-use Rattle.surface.proofs.FileRefusals.{file-refusals, save-refusals}
+use Rattle.surface.proofs.FileRefusals.{file-refusals, bench-refusals, save-refusals}
 
 -- ---- the calls
 
@@ -154,5 +154,6 @@ refusals =
           (one-or (readingCause W H t cs u v) (cause 11 (ltb 99999 tariff)) js
           (one-reading js refl refl refl refl refl refl W H t cs u v) (one-cause 11 (ltb 99999 tariff) js refl));
       file = file-refusals;
+      bench = bench-refusals;
       save = save-refusals;
     }

@@ -22,7 +22,9 @@ use Rattle.surface.specs.Table.{treeOf, formed, levels, slots, coefficie
 use Rattle.surface.specs.Calls.{Answer, refused, gives, Written, Done, freshOutcome, insertOutcome, setOutcome}
 use Rattle.surface.specs.Calls.{activityOutcome, leastOutcome, exactOutcome, displayOutcome, costOutcome}
 use Rattle.surface.specs.FloatReading.{FloatMeets}
+use Rattle.surface.specs.Note.{Note, noPart}
 use Rattle.surface.specs.TableFile.{fileOutcome}
+use Rattle.surface.specs.BenchLoading.{Benched, benchOutcome}
 use Rattle.surface.specs.Saving.{saveOutcome}
 
 -- ---- demand 1: "a call gives its full result, or one refusal number from document 01 and writes nothing"
@@ -49,6 +51,10 @@ pub record WritesSliceOrNothing {A B : Type 0} (numbers : List ℕ) (o : Done A 
   pub refusal : (n : ℕ) → o .result ≡ refused n → o .after ≡ lent
   pub lengths : length (o .after) ≡ length lent
 
+-- Document 02: "with ... a refused call, it says none and the part is empty".
+abbrev pub TellsNote : Benched → Type 0
+TellsNote o = (n : ℕ) → o .loaded .result ≡ refused n → o .note ≡ noPart
+
 pub record Refusals : Type 0 where
   pub fresh : (W H : ℕ) (number : ℤ) (treeOut : List ℕ) (numbersOut : List ℤ)
       → WritesAllOrNothing (1 ∷ 10 ∷ 16 ∷ 17 ∷ []) (freshOutcome W H number treeOut numbersOut) treeOut numbersOut
@@ -74,8 +80,12 @@ pub record Refusals : Type 0 where
   pub file : (bytes : List ℕ) (treeOut : List ℕ) (numbersOut : List ℤ)
       → WritesAllOrNothing (1 ∷ 2 ∷ 4 ∷ 12 ∷ 13 ∷ 14 ∷ 15 ∷ 16 ∷ 17 ∷ 20 ∷ []) (fileOutcome bytes treeOut numbersOut)
       treeOut numbersOut
-  pub save : (W H : ℕ) (t : List ℕ) (cs : List ℤ) (out : List ℕ)
-      → WritesSliceOrNothing (1 ∷ 2 ∷ 3 ∷ 4 ∷ 5 ∷ 18 ∷ []) (saveOutcome W H t cs out) out
+  pub bench : (bytes : List ℕ) (treeOut : List ℕ) (numbersOut : List ℤ)
+      → WritesAllOrNothing (1 ∷ 2 ∷ 4 ∷ 12 ∷ 13 ∷ 14 ∷ 15 ∷ 16 ∷ 17 ∷ 20 ∷ [])
+      (benchOutcome bytes treeOut numbersOut .loaded) treeOut numbersOut
+      × TellsNote (benchOutcome bytes treeOut numbersOut)
+  pub save : (W H : ℕ) (t : List ℕ) (cs : List ℤ) (note : Note) (out : List ℕ)
+      → WritesSliceOrNothing (1 ∷ 2 ∷ 3 ∷ 4 ∷ 5 ∷ 14 ∷ 18 ∷ []) (saveOutcome W H t cs note out) out
 
 -- ---- demand 2: "A function is active exactly when the selection rule of source document 003 makes it so."
 

@@ -9,6 +9,8 @@ pub mod Table
 pub mod Calls
 pub mod FloatReading
 pub mod Fields
+pub mod Note
 pub mod TableFile
+pub mod BenchLoading
 pub mod Saving
 pub mod Demands

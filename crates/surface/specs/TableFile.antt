@@ -1,6 +1,6 @@
--- Document 01, "The table file", with the field of document 02, "Counts in the file": what loading a file gives, judged
--- in byte order: "whole head, tag, length, whole body, contents; after the last field 15, 16, 17"; and the file of a
--- table.
+-- Document 01, "The table file", with the fields of document 02, "Counts in the file" and "A bench note": what loading
+-- a file gives, judged in byte order: "whole head, tag, length, whole body, contents; after the last field 15, 16, 17";
+-- and the file of a table.
 use mathlib.Core.Bool.{Bool, true, _&&_, cond}
 use mathlib.Core.List.{List, [], _∷_, _++_}
 use Prim.Native.Nat.{ℕ, zero, suc, _+_, _*_}
@@ -14,6 +14,7 @@ use Rattle.surface.specs.Table.{cause, treeOf, formed, levels, coefficie
 use Rattle.surface.specs.Calls.{Written, refused, written, outputsCause}
 use Rattle.surface.specs.Fields.{Judged, declined, contains, unless, Part, holds, inPart, field, checked}
 use Rattle.surface.specs.Fields.{twoBytesAt, numberAt, allWithin, twoBytes, fieldBytes, numberBytes}
+use Rattle.surface.specs.Note.{Note, noteField, noteBytes}
 
 -- ---- the sides and the tree
 
@@ -72,21 +73,22 @@ levelFields W H lev (suc L) s =
 
 -- ---- the whole file
 
--- What a file holds: a refusal number, or the sheet, the tree and the coefficient slice.
+-- What a file holds: a refusal number, or the sheet, the tree, the coefficient slice and a note or none.
 pub record Loaded : Type 0 where
   pub W : ℕ
   pub H : ℕ
   pub tree : List ℕ
   pub numbers : List ℤ
+  pub note : Note
 
 abbrev pub File : Type 0
 File = Judged Loaded
 
--- What follows the levels: "bytes after the last field" are 15.
+-- What follows the last field: "bytes after the last field" are 15.
 abbrev pub endCause : List ℕ → ℕ
 endCause s = cause 15 (ltb 0 (length s))
 
--- "in this order, all present", but for the counts
+-- "in this order, all present", but for the counts and the note
 unfoldable pub fileContents : List ℕ → File
 fileContents s =
     inPart (sidesField s) λ sides rest.
@@ -95,7 +97,8 @@ fileContents s =
     inPart (treeField W H rest) λ t rest2.
     inPart (countsField (activeCount W H (levels t)) rest2) λ counts rest3.
     inPart (levelFields W H (levels t) 4 rest3) λ numbers rest4.
-    unless (endCause rest4) (contains (record { W = W; H = H; tree = t; numbers = numbers }))
+    inPart (noteField rest4) λ note rest5.
+    unless (endCause rest5) (contains (record { W = W; H = H; tree = t; numbers = numbers; note = note }))
 
 -- ---- the call
 
@@ -116,7 +119,8 @@ fileOutcomeOf (contains f) treeOut numbersOut =
     treeOut
     numbersOut
 
--- "Reading fills a tree buffer and a coefficient slice."
+-- "Reading fills a tree buffer and a coefficient slice." Document 02: "The controller's loader passes over it", the
+-- note.
 unfoldable pub fileOutcome : List ℕ → List ℕ → List ℤ → Written FileResult
 fileOutcome file treeOut numbersOut = fileOutcomeOf (fileContents file) treeOut numbersOut
 
@@ -138,14 +142,17 @@ unfoldable pub countsBody : (ℕ → ℕ) → List ℕ
 countsBody n = joined 4 (λ L. twoBytes (n L))
 
 -- "in this order, all present: tag 1, W and H, a byte each; tag 2, the tree; tags 16 to 19, the active coefficients of
--- levels 0 to 3"; document 02: "a field of tag 3 after tag 2". With the counts, or lacking them.
-unfoldable pub fileWith : Bool → ℕ → ℕ → List ℕ → List ℤ → List ℕ
-fileWith counts W H t cs =
+-- levels 0 to 3"; document 02: "a field of tag 3 after tag 2", and a note, "last in the file". With the counts, or
+-- lacking them; with a note, or none.
+unfoldable pub fileWith : Bool → Note → ℕ → ℕ → List ℕ → List ℤ → List ℕ
+fileWith counts note W H t cs =
     fieldBytes 1 (W ∷ H ∷ [])
     ++ fieldBytes 2 t
     ++ cond counts (fieldBytes 3 (countsBody (activeCount W H (levels t)))) []
     ++ joined 4 (λ L. fieldBytes (16 + L) (levelBody W H (levels t) (coefficients W H cs) L))
+    ++ noteBytes note
 
--- Document 02: "Each acceptable table has one file"; "The writer always puts it", the field of the counts.
-abbrev pub fileOf : ℕ → ℕ → List ℕ → List ℤ → List ℕ
-fileOf W H t cs = fileWith true W H t cs
+-- Document 02: "Each acceptable table has one file", for a note or none; "The writer always puts it", the field of the
+-- counts.
+abbrev pub fileOf : Note → ℕ → ℕ → List ℕ → List ℤ → List ℕ
+fileOf note W H t cs = fileWith true note W H t cs

@@ -1,76 +1,58 @@
 -- The counts in a file: which files have them, and what they tell.
 use mathlib.Core.Path.{_≡_, refl, sym, ap, ap₂, _∙_}
 use mathlib.Core.Bool.{Bool, true, false, cond}
-use mathlib.Core.List.{List, [], _∷_, _++_}
+use mathlib.Core.List.{List, [], _∷_, _++_, append-assoc}
 use Prim.Native.Nat.{ℕ, _+_, _*_, _<_}
 use native.Mathlib.Omega.{arith}
-use lib.IntN.{ℤ}
-use lib.ListN.{length, getD, take, drop, length-append, take-append-drop}
+use lib.Dec.{eqb}
+use lib.ListN.{length, getD, drop}
 use lib.Seq.{getD-take, drop-drop}
 use Rattle.finite.specs.Range.{joined}
 use Rattle.surface.specs.Support.{activeCount}
 use Rattle.surface.specs.Table.{levels, coefficients}
 use Rattle.surface.specs.Fields.{lengthAt, fieldBytes}
-use Rattle.surface.specs.TableFile.{levelBody, countsBody, fileWith}
-use Rattle.fields.proofs.FieldLaws.{bodyOf, restOf}
-use Rattle.tablefile.specs.Counts.{afterTree, hasCounts, withCounts, CountsTell, CountsThere}
-use Rattle.tablefile.proofs.CountsField.{counts-tell, counts-length}
+use Rattle.surface.specs.Note.{noteBytes}
+use Rattle.surface.specs.TableFile.{Loaded, levelBody, countsBody, fileWith}
+use Rattle.surface.proofs.TableLaws.{sound}
+use Rattle.fields.proofs.FieldLaws.{bodyOf, restOf, checked-accepted}
+use Rattle.fields.proofs.Written.{checked-read}
+use Rattle.tablefile.specs.Counts.{afterTree, CountsTell, CountsThere}
+use Rattle.tablefile.proofs.CountsField.{counts-tell}
 use Rattle.tablefile.proofs.FileLaws.{accepted, tree-end, has-counts}
-use Rattle.tablefile.proofs.Saved.{saved-loads, loaded-is}
+use Rattle.tablefile.proofs.Saved.{tree-size, saved-loads}
 
 -- ---- which files have them
 
--- a table's file has eleven bytes more than that without the counts
-longer : (W H : ℕ) (t : List ℕ) (cs : List ℤ)
-    → length (fileWith true W H t cs) ≡ 11 + length (fileWith false W H t cs)
-unfolding fileWith
-longer W H t cs =
-    let front = fieldBytes 1 (W ∷ H ∷ []) ++ fieldBytes 2 t in
-    let n = activeCount W H (levels t) in
-    let counts = fieldBytes 3 (countsBody n) in
-    let fields = joined 4 (λ L. fieldBytes (16 + L) (levelBody W H (levels t) (coefficients W H cs) L)) in
-    omega (
-      arith,
-      length-append (front ++ counts) fields,
-      length-append front counts,
-      counts-length n,
-      length-append (front ++ []) fields,
-      length-append front [],
-    )
+-- what follows a written field
+past-written : (tag : ℕ) (b rest : List ℕ) → length b < 65536 → restOf (fieldBytes tag b ++ rest) ≡ rest
+past-written tag b rest small =
+    checked-accepted tag 0 65535 0 (λ b. true) (λ b. b) (fieldBytes tag b ++ rest) b rest
+    (checked-read tag 0 65535 1 (λ b. true) (λ b. b) b rest small (omega arith) (omega arith) refl) .3
+
+-- tag 3 or 16 follows the sides and the tree
+tag-due : (field : ℕ → List ℕ) (body last : List ℕ) (counts : Bool)
+    → eqb (getD (cond counts (fieldBytes 3 body) [] ++ (joined 4 (λ L. fieldBytes (16 + L) (field L)) ++ last)) 0 0) 3
+    ≡ counts
+unfolding joined
+tag-due field body last true = refl
+tag-due field body last false = refl
 
 pub counts-there : CountsThere
-counts-there counts W H t cs acc =
-    let s = saved-loads counts W H t cs acc in
-    go counts (hasCounts (fileWith counts W H t cs))
-    (loaded-is (fileWith counts W H t cs) (s .1) (record { W = W; H = H; tree = t; numbers = cs }) (s .0))
-  where
-    go : (a b : Bool) → fileWith a W H t cs ≡ fileWith b W H t cs → b ≡ a
-    go true true e = refl
-    go true false e = absurd (omega (arith, ap length e, longer W H t cs))
-    go false true e = absurd (omega (arith, ap length e, longer W H t cs))
-    go false false e = refl
-
--- only a file that has them is the one with them
-pub counts-only : (n : ℕ → ℕ) (s : List ℕ) → withCounts n s ≡ s → hasCounts s ≡ true
-counts-only n s = go (hasCounts s)
-  where
-    p : ℕ
-    p = afterTree s
-
-    field : List ℕ
-    field = fieldBytes 3 (countsBody n)
-
-    go : (t : Bool) → cond t s (take p s ++ field ++ drop p s) ≡ s → t ≡ true
-    go true e = refl
-    go false e =
-        absurd (omega (
-          arith,
-          ap length e,
-          length-append (take p s ++ field) (drop p s),
-          length-append (take p s) field,
-          length-append (take p s) (drop p s),
-          ap length (take-append-drop p s),
-        ))
+unfolding fileWith
+counts-there counts note W H t cs acc fits =
+    let s = fileWith counts note W H t cs in
+    let f : Loaded = record { W = W; H = H; tree = t; numbers = cs; note = note } in
+    let body = countsBody (activeCount W H (levels t)) in
+    let field : ℕ → List ℕ = λ L. levelBody W H (levels t) (coefficients W H cs) L in
+    let tail = joined 4 (λ L. fieldBytes (16 + L) (field L)) ++ noteBytes note in
+    let rest = cond counts (fieldBytes 3 body) [] ++ tail in
+    let parts : s ≡ fieldBytes 1 (W ∷ H ∷ []) ++ (fieldBytes 2 t ++ rest) = simp (append-assoc) in
+    has-counts s f (accepted s f (saved-loads counts note W H t cs acc fits .0))
+    ∙ ap (λ s. eqb (getD (restOf (restOf s)) 0 0) 3) parts
+    ∙ ap (λ s. eqb (getD (restOf s) 0 0) 3) (past-written 1 (W ∷ H ∷ []) (fieldBytes 2 t ++ rest) (omega arith))
+    ∙ ap (λ s. eqb (getD s 0 0) 3)
+    (past-written 2 t rest (omega (arith, tree-size W H t (sound W H t cs acc .tree) .1)))
+    ∙ tag-due field body (noteBytes note) counts
 
 -- ---- what they tell
 

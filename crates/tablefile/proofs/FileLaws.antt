@@ -16,6 +16,7 @@ use Rattle.surface.specs.Sheet.{goodSide, functions}
 use Rattle.surface.specs.Support.{activeCount}
 use Rattle.surface.specs.Table.{treeOf, formed, levels, coefficients, sliceFrom, sliceOf, limit}
 use Rattle.surface.specs.Fields.{contains, holds, lengthAt, allWithin}
+use Rattle.surface.specs.Note.{noteField}
 use Rattle.surface.specs.TableFile.{sidesIn, goodSides, sidesField, treeField, countsField, loaded, levelLoaded}
 use Rattle.surface.specs.TableFile.{levelField, levelFields, Loaded, endCause, fileContents}
 use Rattle.surface.proofs.TableLaws.{formed-tree, slice-more, slice-length, slice-coefficient, Sound}
@@ -24,6 +25,7 @@ use Rattle.fields.proofs.FieldLaws.{bodyOf, restOf, Stands, held, unless-accept
 use Rattle.tablefile.specs.Counts.{afterTree, hasCounts}
 use Rattle.tablefile.proofs.ActiveLaws.{loaded-passive, loaded-within}
 use Rattle.tablefile.proofs.CountsField.{pastCounts, CountsStand, counts-accepted}
+use Rattle.tablefile.proofs.NoteField.{Noted, note-accepted}
 
 -- ---- the fields of the levels
 
@@ -91,7 +93,7 @@ pub record Accepted (s : List ℕ) (f : Loaded) : Type 0 where
   pub counts : eqb (getD (restOf (restOf s)) 0 0) 3 ≡ true
       → CountsStand (activeCount (f .W) (f .H) (levels (f .tree))) (restOf (restOf s))
   pub level : (L : ℕ) → L < 4 → LevelStands (f .W) (f .H) (levels (f .tree)) (levelsIn s) L
-  pub end : after 4 (levelsIn s) ≡ []
+  pub note : Noted (after 4 (levelsIn s)) (f .note)
   pub slice : f .numbers ≡ sliceOf (f .W) (f .H) (coefficientsIn (f .W) (f .H) (levels (f .tree)) (levelsIn s))
 
 empty : (s : List ℕ) → endCause s ≡ 0 → s ≡ []
@@ -120,8 +122,10 @@ accepted s f e =
     let p4 = part-accepted (levelFields W H (levels t) 4 (p3 .1)) _ f (p3 .3) in
     let l = levels-accepted W H (levels t) (levelsIn s) 4 (p4 .0) (p4 .1)
     (subst (λ r. levelFields W H (levels t) 4 r ≡ holds (p4 .0) (p4 .1)) (sym (c3 .0)) (p4 .2)) in
-    let u = unless-accepted (endCause (p4 .1)) _ f (p4 .3) in
-    let same : _≡_ {A = Loaded} (record { W = W; H = H; tree = t; numbers = p4 .0 }) f = let e = u .1 in cc in
+    let p5 = part-accepted (noteField (p4 .1)) _ f (p4 .3) in
+    let u = unless-accepted (endCause (p5 .1)) _ f (p5 .3) in
+    let same : _≡_ {A = Loaded} (record { W = W; H = H; tree = t; numbers = p4 .0; note = p5 .0 }) f =
+    let e = u .1 in cc in
     subst (Accepted s) same
     (record {
       sides = c1 .0;
@@ -134,7 +138,9 @@ accepted s f e =
       form = sym (ap (λ t. formed W H (treeOf t)) (c2 .2)) ∙ c2 .1;
       counts = c3 .1;
       level = l .level;
-      end = sym (l .end) ∙ empty (p4 .1) (u .0);
+      note =
+          subst (λ s. Noted s (p5 .0)) (l .end)
+          (note-accepted (p4 .1) (p5 .0) (p5 .1) (p5 .2) (empty (p5 .1) (u .0)));
       slice = l .slice;
     })
 

@@ -1,9 +1,12 @@
 pub mod CountLaws
 pub mod ActiveLaws
 pub mod CountsField
+pub mod NoteField
 pub mod FileLaws
 pub mod LongLaws
 pub mod SavedLevels
 pub mod Saved
+pub mod NoteAfter
 pub mod CountsTold
 pub mod Theorems
+pub mod NoteTold

@@ -16,6 +16,7 @@ use Rattle.surface.specs.Support.{activeCount}
 use Rattle.surface.specs.Table.{cause, _orElse_, treeOf, formed, levels, limit}
 use Rattle.surface.specs.Fields.{Judged, declined, contains, unless, Part, holds, inPart, lengthAt, field, checked}
 use Rattle.surface.specs.Fields.{allWithin}
+use Rattle.surface.specs.Note.{Note, none, noted, noteField}
 use Rattle.surface.specs.TableFile.{sidesIn, goodSides, sidesField, treeField, countsAgree, countsField, levelLoaded}
 use Rattle.surface.specs.TableFile.{levelField, levelFields, fileContents}
 use Rattle.surface.proofs.TableLaws.{good-side}
@@ -205,28 +206,46 @@ front-counts n k m s h =
     go true = front-checked 3 8 8 m k s (omega arith) (λ fit. omega arith) 20 (countsAgree n) (λ b. b)
     go false = (m, omega arith, refl)
 
+-- ---- the note
+
+-- a field of 3 to 67 bytes, or none
+front-note : (k m : ℕ) (s : List ℕ) → 67 + k ≤ m → Front k (noteField (take m s)) (noteField s)
+unfolding noteField
+front-note k m s h =
+    rw (getD-take m s 0 0 (omega arith)) (go (eqb (getD s 0 0) 32))
+  where
+    read : List ℕ → Judged (Part Note)
+    read s = checked (field 32 0 64 s) 0 (λ b. true) noted
+
+    go : (t : Bool) → Front k (cond t (read (take m s)) (holds none (take m s))) (cond t (read s) (holds none s))
+    go true = front-checked 32 0 64 m k s (omega arith) (λ fit. omega arith) 0 (λ b. true) noted
+    go false = (m, omega arith, refl)
+
 -- ---- the whole file
 
--- the fields of a file take at most 5, 1,368, 11 and 30,992 bytes, and one more shows whether bytes follow them
-pub cut-contents : (s : List ℕ) (n : ℕ) → 32377 ≤ n → fileContents (take n s) ≡ fileContents s
+-- the fields of a file take at most 5, 1,368, 11, 30,992 and 67 bytes, and one more shows whether bytes follow them
+pub cut-contents : (s : List ℕ) (n : ℕ) → 32444 ≤ n → fileContents (take n s) ≡ fileContents s
 unfolding fileContents sidesField treeField
 cut-contents s n h =
-    along _≡_ (λ n. refl) 32372 (sidesField (take n s)) (sidesField s)
-    (front-checked 1 2 2 n 32372 s (omega arith) (λ fit. omega arith) 1 (λ b. goodSides (sidesIn b)) sidesIn) _
+    along _≡_ (λ n. refl) 32439 (sidesField (take n s)) (sidesField s)
+    (front-checked 1 2 2 n 32439 s (omega arith) (λ fit. omega arith) 1 (λ b. goodSides (sidesIn b)) sidesIn) _
     λ sides rest j e l.
     let W = sides .W in
     let H = sides .H in
     let c = checked-accepted 1 2 2 0 (λ b. goodSides (sidesIn b)) sidesIn s sides rest e in
     let good = both (goodSide W) (goodSide H) (sym (ap goodSides (c .2)) ∙ c .1) in
-    along _≡_ (λ n. refl) 31004 (treeField W H (take j rest)) (treeField W H rest)
-    (front-checked 2 1 1365 j 31004 rest (omega arith) (λ fit. omega arith) 2 (λ t. formed W H (treeOf t)) (λ t. t)) _
+    along _≡_ (λ n. refl) 31071 (treeField W H (take j rest)) (treeField W H rest)
+    (front-checked 2 1 1365 j 31071 rest (omega arith) (λ fit. omega arith) 2 (λ t. formed W H (treeOf t)) (λ t. t)) _
     λ t rest2 j2 e2 l2.
     let small = levels-small W H (levels t) (good-side W (good .0) .1) (good-side H (good .1) .1) in
     let active = activeCount W H (levels t) in
-    along _≡_ (λ n. refl) 30993 (countsField active (take j2 rest2)) (countsField active rest2)
-    (front-counts active 30993 j2 rest2 (omega arith)) _
+    along _≡_ (λ n. refl) 31060 (countsField active (take j2 rest2)) (countsField active rest2)
+    (front-counts active 31060 j2 rest2 (omega arith)) _
     λ counts rest3 j3 e3 l3.
-    along _≡_ (λ n. refl) 1 (levelFields W H (levels t) 4 (take j3 rest3)) (levelFields W H (levels t) 4 rest3)
-    (front-levels W H (levels t) 4 1 j3 rest3 (omega arith)) _
+    along _≡_ (λ n. refl) 68 (levelFields W H (levels t) 4 (take j3 rest3)) (levelFields W H (levels t) 4 rest3)
+    (front-levels W H (levels t) 4 68 j3 rest3 (omega arith)) _
     λ cs rest4 j4 e4 l4.
-    ap (λ x. unless (cause 15 x) (contains (record { W = W; H = H; tree = t; numbers = cs }))) (cut-any j4 rest4 l4)
+    along _≡_ (λ n. refl) 1 (noteField (take j4 rest4)) (noteField rest4) (front-note 1 j4 rest4 (omega arith)) _
+    λ note rest5 j5 e5 l5.
+    ap (λ x. unless (cause 15 x) (contains (record { W = W; H = H; tree = t; numbers = cs; note = note })))
+    (cut-any j5 rest5 l5)

@@ -1,4 +1,5 @@
--- The file of an acceptable table loads that table, and so does the same without the counts; no other file does.
+-- The file of an acceptable table loads that table, with the counts or without them and with a note or none; no other
+-- file does.
 use mathlib.Core.Path.{_≡_, refl, sym, ap, ap₂, _∙_, subst}
 use mathlib.Core.Bool.{Bool, true, false, cond}
 use mathlib.Core.List.{List, [], _∷_, _++_, append-nil, append-assoc}
@@ -18,6 +19,7 @@ use Rattle.surface.specs.Quadtree.{Quadtree, bytes, wellFormed}
 use Rattle.surface.specs.Support.{activeCount}
 use Rattle.surface.specs.Table.{treeOf, formed, levels, start, slots, coefficients, sliceFrom, sliceOf, limit}
 use Rattle.surface.specs.Fields.{contains, holds, lengthAt, numberAt, allWithin, Bytes, fieldBytes}
+use Rattle.surface.specs.Note.{Note, noteBytes, noteFits}
 use Rattle.surface.specs.TableFile.{sidesIn, goodSides, sidesField, treeField, countsAgree, countsField, levelLoaded}
 use Rattle.surface.specs.TableFile.{levelField, levelFields, Loaded, fileContents, countsBody, fileWith, fileOf}
 use Rattle.surface.proofs.TreeForm.{AtLeaves, AtSplits, form-induction}
@@ -32,6 +34,7 @@ use Rattle.tablefile.specs.Saved.{SavedLoads, LoadedIs, SavedOfLoaded, L
 use Rattle.tablefile.proofs.ActiveLaws.{active-place, active-square, active-few, loaded-active}
 use Rattle.tablefile.proofs.CountsField.{past-bytes, counts-length, counts-bytes, counts-agree}
 use Rattle.tablefile.proofs.CountsField.{counts-written}
+use Rattle.tablefile.proofs.NoteField.{note-bytes, note-read, note-length}
 use Rattle.tablefile.proofs.FileLaws.{after, levelsIn, Accepted, accepted, sides-end, has-counts}
 use Rattle.tablefile.proofs.FileLaws.{loaded-coefficient, accepted-sound}
 use Rattle.tablefile.proofs.SavedLevels.{level-length, level-bytes, level-number, level-loads, level-within}
@@ -153,17 +156,18 @@ module _ (W H : ℕ) (t : List ℕ) (cs : List ℤ) (ok : Sound W H t cs) where
       (omega arith) (omega arith) (counts-agree n (counts-few W H (levels t) (sides ok .1) (sides ok .3)))
   counts-read false rest = refl
 
-  file-read : (counts : Bool)
-      → fileContents (fileWith counts W H t cs) ≡ contains (record { W = W; H = H; tree = t; numbers = cs })
+  file-read : (counts : Bool) (note : Note) → noteFits note ≡ true
+      → fileContents (fileWith counts note W H t cs)
+      ≡ contains (record { W = W; H = H; tree = t; numbers = cs; note = note })
   unfolding fileContents fileWith sidesField treeField
-  file-read counts =
+  file-read counts note fits =
       let size = tree-size W H t (ok .tree) in
       let sheet = fieldBytes 1 (W ∷ H ∷ []) in
-      let levelsPart = joined 4 written ++ [] in
-      let countsLevels = countsPart counts W H t ++ levelsPart in
-      let parts : ((sheet ++ fieldBytes 2 t) ++ countsPart counts W H t) ++ joined 4 written
+      let last = noteBytes note in
+      let countsLevels = countsPart counts W H t ++ (joined 4 written ++ last) in
+      let parts : (((sheet ++ fieldBytes 2 t) ++ countsPart counts W H t) ++ joined 4 written) ++ last
       ≡ sheet ++ (fieldBytes 2 t ++ countsLevels) =
-      simp (append-assoc, append-nil) in
+      simp (append-assoc) in
       let good = and-intro (goodSide W) (goodSide H) (ok .side-W) (ok .side-H) in
       ap fileContents parts
       ∙ rw (
@@ -171,9 +175,10 @@ module _ (W H : ℕ) (t : List ℕ) (cs : List ℤ) (ok : Sound W H t cs) where
             (omega arith) (omega arith) (omega arith) good,
         checked-read 2 1 1365 2 (λ t. formed W H (treeOf t)) (λ t. t) t countsLevels (omega arith) (size .0) (size .1)
             (tree-formed W H t (ok .tree)),
-        counts-read counts [],
-        levels-read 4 (omega arith) [],
+        counts-read counts last,
+        levels-read 4 (omega arith) last,
         own-numbers,
+        note-read note fits,
       )
 
   counts-part-bytes : (counts : Bool) → Bytes (countsPart counts W H t)
@@ -181,12 +186,14 @@ module _ (W H : ℕ) (t : List ℕ) (cs : List ℤ) (ok : Sound W H t cs) where
       field-bytes 3 (countsBody (activeCount W H (levels t))) (omega arith) (counts-bytes (activeCount W H (levels t)))
   counts-part-bytes false = nil-bytes
 
-  file-bytes : (counts : Bool) → Bytes (fileWith counts W H t cs)
+  file-bytes : (counts : Bool) (note : Note) → Bytes (noteBytes note) → Bytes (fileWith counts note W H t cs)
   unfolding fileWith
-  file-bytes counts =
+  file-bytes counts note last =
       let w = sides ok in
       let front = fieldBytes 1 (W ∷ H ∷ []) ++ fieldBytes 2 t in
-      append-bytes (front ++ countsPart counts W H t) (joined 4 written)
+      let table = front ++ countsPart counts W H t in
+      append-bytes (table ++ joined 4 written) (noteBytes note)
+      (append-bytes table (joined 4 written)
       (append-bytes front (countsPart counts W H t)
       (append-bytes (fieldBytes 1 (W ∷ H ∷ [])) (fieldBytes 2 t)
       (field-bytes 1 (W ∷ H ∷ []) (omega arith)
@@ -195,12 +202,13 @@ module _ (W H : ℕ) (t : List ℕ) (cs : List ℤ) (ok : Sound W H t cs) where
       (counts-part-bytes counts))
       (joined-bytes written 4
       λ L h. field-bytes (16 + L) (savedBody W H t cs L) (omega arith)
-      (level-bytes W H (levels t) (coefficients W H cs) L))
+      (level-bytes W H (levels t) (coefficients W H cs) L)))
+      last
 
 -- Loading the file of an acceptable table restores the table.
 pub saved-loads : SavedLoads
-saved-loads counts W H t cs e =
-    (file-read W H t cs (sound W H t cs e) counts, file-bytes W H t cs (sound W H t cs e) counts)
+saved-loads counts note W H t cs e fits =
+    (file-read W H t cs (sound W H t cs e) counts note fits, file-bytes W H t cs (sound W H t cs e) counts note)
 
 -- ---- the file of what was loaded
 
@@ -267,10 +275,14 @@ module _ (s : List ℕ) (bs : Bytes s) (f : Loaded) (r : Accepted s f) where
       (counts-few (f .W) (f .H) (levels (f .tree)) (w .1) (w .3)) x (body-bytes x bytes) (r .counts e))
   counts-saved false e = refl
 
-  file-saved : s ≡ fileWith (hasCounts s) (f .W) (f .H) (f .tree) (f .numbers)
+  note-saved : (after 4 (levelsIn s) ≡ noteBytes (f .note)) × (noteFits (f .note) ≡ true)
+  note-saved = note-bytes (after 4 (levelsIn s)) (f .note) (levels-bytes 4) (r .note)
+
+  file-saved : s ≡ fileWith (hasCounts s) (f .note) (f .W) (f .H) (f .tree) (f .numbers)
   unfolding fileWith
   file-saved =
       let sheet = fieldBytes 1 (f .W ∷ f .H ∷ []) in
+      let last = noteBytes (f .note) in
       let counts = countsPart (eqb (getD (restOf (restOf s)) 0 0) 3) (f .W) (f .H) (f .tree) in
       field-written 1 2 2 s bs (r .sides)
       ∙ ap₂ (λ b l. fieldBytes 1 b ++ l)
@@ -280,13 +292,14 @@ module _ (s : List ℕ) (bs : Bytes s) (f : Loaded) (r : Accepted s f) where
       ∙ ap₂ (λ b l. fieldBytes 2 b ++ l) (r .treeBytes)
       (counts-saved (eqb (getD (restOf (restOf s)) 0 0) 3) refl
       ∙ ap (λ l. counts ++ l)
-      (levels-saved 4 (omega arith) ∙ ap (λ l. joined 4 saved ++ l) (r .end) ∙ append-nil (joined 4 saved))))
-      ∙ sym (append-assoc sheet (fieldBytes 2 (f .tree)) (counts ++ joined 4 saved))
-      ∙ sym (append-assoc (sheet ++ fieldBytes 2 (f .tree)) counts (joined 4 saved))
-      ∙ ap (λ t. fileWith t (f .W) (f .H) (f .tree) (f .numbers)) (sym (has-counts s f r))
+      (levels-saved 4 (omega arith) ∙ ap (λ l. joined 4 saved ++ l) (note-saved .0))))
+      ∙ sym (append-assoc sheet (fieldBytes 2 (f .tree)) (counts ++ (joined 4 saved ++ last)))
+      ∙ sym (append-assoc (sheet ++ fieldBytes 2 (f .tree)) counts (joined 4 saved ++ last))
+      ∙ sym (append-assoc ((sheet ++ fieldBytes 2 (f .tree)) ++ counts) (joined 4 saved) last)
+      ∙ ap (λ t. fileWith t (f .note) (f .W) (f .H) (f .tree) (f .numbers)) (sym (has-counts s f r))
 
   -- with the counts added where there are none
-  pub file-completed : fileOf (f .W) (f .H) (f .tree) (f .numbers)
+  pub file-completed : fileOf (f .note) (f .W) (f .H) (f .tree) (f .numbers)
       ≡ withCounts (activeCount (f .W) (f .H) (levels (f .tree))) s
   unfolding fileWith
   file-completed = go (hasCounts s) file-saved
@@ -308,20 +321,26 @@ module _ (s : List ℕ) (bs : Bytes s) (f : Loaded) (r : Accepted s f) where
             ap lengthAt (sides-end s f r),
           )
 
-      go : (t : Bool) → s ≡ fileWith t (f .W) (f .H) (f .tree) (f .numbers)
-          → fileOf (f .W) (f .H) (f .tree) (f .numbers)
+      tail : List ℕ
+      tail = joined 4 saved ++ noteBytes (f .note)
+
+      go : (t : Bool) → s ≡ fileWith t (f .note) (f .W) (f .H) (f .tree) (f .numbers)
+          → fileOf (f .note) (f .W) (f .H) (f .tree) (f .numbers)
           ≡ cond t s (take (afterTree s) s ++ field ++ drop (afterTree s) s)
       go true e = sym e
       go false e =
-          ap₂ (λ a b. (a ++ field) ++ b)
+          let split : s ≡ (front ++ []) ++ tail =
+          e ∙ append-assoc (front ++ []) (joined 4 saved) (noteBytes (f .note)) in
+          append-assoc (front ++ field) (joined 4 saved) (noteBytes (f .note))
+          ∙ ap₂ (λ a b. (a ++ field) ++ b)
           (sym (append-nil front)
-          ∙ sym (take-at (front ++ []) (joined 4 saved) (afterTree s) at)
-          ∙ ap (take (afterTree s)) (sym e))
-          (sym (drop-at (front ++ []) (joined 4 saved) (afterTree s) at) ∙ ap (drop (afterTree s)) (sym e))
+          ∙ sym (take-at (front ++ []) tail (afterTree s) at)
+          ∙ ap (take (afterTree s)) (sym split))
+          (sym (drop-at (front ++ []) tail (afterTree s) at) ∙ ap (drop (afterTree s)) (sym split))
 
 -- A file that is loaded is the one of what it loads.
 pub loaded-is : LoadedIs
-loaded-is s h f e = file-saved s h f (accepted s f e)
+loaded-is s h f e = let r = accepted s f e in (file-saved s h f r, note-saved s h f r .1)
 
 -- Saving what was loaded from a file reproduces the file, with the counts added if it lacks them.
 pub saved-of-loaded : SavedOfLoaded
@@ -337,7 +356,7 @@ field-short W H t cs L n wide high =
 
 pub longest-file : LongestFile
 unfolding fileWith total
-longest-file W H t cs acc =
+longest-file note W H t cs acc fits =
     let s = sound W H t cs acc in
     let w = sides s in
     let field : ℕ → List ℕ = λ L. levelWritten W H t cs L in
@@ -345,6 +364,8 @@ longest-file W H t cs acc =
     let counts = fieldBytes 3 (countsBody (activeCount W H (levels t))) in
     omega (
       arith,
+      length-append (front ++ fieldBytes 2 t ++ counts ++ joined 4 field) (noteBytes note),
+      note-length note fits,
       length-append (front ++ fieldBytes 2 t ++ counts) (joined 4 field),
       length-append (front ++ fieldBytes 2 t) counts,
       length-append front (fieldBytes 2 t),

@@ -10,6 +10,7 @@ use lib.ListN.{getD, take, drop}
 use Rattle.surface.specs.Support.{activeCount}
 use Rattle.surface.specs.Table.{levels, Acceptable}
 use Rattle.surface.specs.Fields.{contains, lengthAt, twoBytesAt, fieldBytes}
+use Rattle.surface.specs.Note.{Note, noteFits}
 use Rattle.surface.specs.TableFile.{countsBody, Loaded, fileContents, fileWith}
 
 -- "after tag 2": two heads, the two sides and the tree come before.
@@ -36,8 +37,8 @@ abbrev pub CountsTell : Type 0
 CountsTell =
     (s : List ℕ) (f : Loaded) → fileContents s ≡ contains f → hasCounts s ≡ true → Tells (f .W) (f .H) (f .tree) s
 
--- The file of a table has them, and the one without them does not.
+-- The file of a table has them, and the one without them does not, with any note or none.
 abbrev pub CountsThere : Type 0
 CountsThere =
-    (counts : Bool) (W H : ℕ) (t : List ℕ) (cs : List ℤ) → Acceptable W H t cs
-    → hasCounts (fileWith counts W H t cs) ≡ counts
+    (counts : Bool) (note : Note) (W H : ℕ) (t : List ℕ) (cs : List ℤ) → Acceptable W H t cs → noteFits note ≡ true
+    → hasCounts (fileWith counts note W H t cs) ≡ counts

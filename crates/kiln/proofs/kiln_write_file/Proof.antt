@@ -5,13 +5,13 @@ use Rattle.kiln.proofs.kiln_write_file.Tie as tie
 
 returns : tie.Need-returns
 returns c =
-    let s = c .before .before .before .before .before .before .before .before .before in
+    let s = c .before .before .before .before .before .before .before .before .before .before in
     bytes-given (c .before .r .given .0 .0) (s .args .length .now) (c .before .r .given .1)
     (c .before .before .before .before .before .write-file .ensures)
 
 returns-2 : tie.Need-returns-2
 returns-2 c =
-    let s = c .before .before .before .before .before .before .before .before .before in
+    let s = c .before .before .before .before .before .before .before .before .before .before in
     bytes-refused (c .before .r2 .given .0 .0) (s .args .length .now) (c .before .r2 .given .1)
     (c .before .before .before .before .before .write-file .ensures)
 

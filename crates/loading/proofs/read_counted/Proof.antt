@@ -7,9 +7,9 @@ use Rattle.surface.specs.TableFile.{countsField}
 use Rattle.tablefile.proofs.CountsField.{counts-field-cong}
 use Rattle.fields.specs.declared.Field.{Field}
 use Rattle.rows.specs.Rows.{levelsOf}
-use Rattle.loading.specs.Judged.{sheetW, sheetH, countOf, judgedAs}
-use Rattle.loading.proofs.CountsLaws.{counts-declined, counts-passed}
-use Rattle.loading.proofs.ReadLaws.{read-declined}
+use Rattle.judging.specs.Judged.{sheetW, sheetH, countOf, judgedAs}
+use Rattle.judging.proofs.CountsLaws.{counts-declined, counts-passed}
+use Rattle.loading.proofs.ReadLaws.{bench-declined}
 use Rattle.loading.proofs.read_counted.Statement.{statement}
 use Rattle.loading.proofs.read_counted.Tie as tie
 
@@ -52,12 +52,13 @@ read-levels-requires c κs =
 
 returns : tie.Need-returns
 returns c =
-    let k = c .before in
+    let k = c .before .before in
     let j = k .before .before in
     let s = j .before .before .before .before .before .before in
     let a = s .args in
     let file = a .file .now in
-    read-declined file (a .tree-out .now) (a .numbers-out .now) (k .f .given .0 .0)
+    bench-declined file (a .tree-out .now) (a .numbers-out .now) (c .refused .result) (k .f .given .0 .0)
+    (c .refused .ensures)
     (counts-declined file (a .end) (sheetW file) (sheetH file) (a .rows .now) (s .pre) (k .f .given .0 .0)
     (told j _ (k .f .given .1)))
 
@@ -65,5 +66,5 @@ pub read-counted-spec : {M : Type 1} → statement M
 read-counted-spec =
     tie.close
     (tie.spec (λ c. search needs) (λ c. search needs) (λ c. search needs) (λ c. search needs) active-counts-requires
-    counts-judge-requires (λ c. search needs) (λ c. search needs) read-levels-requires returns (λ c. search needs)
-    (λ c. search needs) (λ c. search needs))
+    counts-judge-requires (λ c. search needs) (λ c κs. search needs) (λ c. search needs) read-levels-requires returns
+    (λ c. search needs) (λ c. search needs) (λ c. search needs))

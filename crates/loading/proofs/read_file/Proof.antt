@@ -1,28 +1,15 @@
--- Each way out of `read_file` gives the defined outcome.
-use mathlib.Core.Path.{subst}
+-- The controller's loader answers as the bench loader does.
 use borrow.Author.Needs.{needs}
-use Rattle.loading.specs.Judged.{headJudged}
-use Rattle.loading.proofs.ReadLaws.{read-declined}
+use Rattle.loading.proofs.ReadLaws.{bench-reads}
 use Rattle.loading.proofs.read_file.Statement.{statement}
 use Rattle.loading.proofs.read_file.Tie as tie
 
-read-counted-requires : tie.Need-read-counted-requires
-read-counted-requires c κs =
-    let k = c .before .before .before .before in
-    let j = k .before .before in
-    subst (λ r. headJudged r (j .before .before .before .before .args .file .now) (j .head-judge .last .1 .0))
-    (k .f2 .given .1) (j .head-judge .ensures)
-
 returns : tie.Need-returns
 returns c =
-    let k = c .before in
-    let j = k .before .before in
-    let a = j .before .before .before .before .args in
-    read-declined (a .file .now) (a .tree-out .now) (a .numbers-out .now) (k .f .given .0 .0)
-    (subst (λ r. headJudged r (a .file .now) (j .head-judge .last .1 .0)) (k .f .given .1) (j .head-judge .ensures))
+    let k = c .before .before .before in
+    let a = k .before .before .before .before .before .args in
+    bench-reads (a .file .now) (a .tree-out .now) (a .numbers-out .now) (k .read-bench .result) _ _
+    (k .read-bench .ensures)
 
 pub read-file-spec : {M : Type 1} → statement M
-read-file-spec =
-    tie.close
-    (tie.spec (λ c κs. search needs) (λ c. search needs) (λ c. search needs) read-counted-requires returns
-    (λ c. search needs) (λ c. search needs) (λ c. search needs))
+read-file-spec = tie.close (tie.spec (λ c κs. search needs) (λ c. search needs) (λ c. search needs) returns)

@@ -5,8 +5,8 @@ use lib.ListN.{drop}
 use Rattle.surface.specs.TableFile.{levelFields}
 use Rattle.fields.specs.declared.Field.{Field}
 use Rattle.rows.specs.Rows.{levelsOf}
-use Rattle.loading.specs.Judged.{judgedAs}
-use Rattle.loading.proofs.ReadLaws.{levels-declined, read-declined}
+use Rattle.judging.specs.Judged.{judgedAs}
+use Rattle.loading.proofs.ReadLaws.{levels-declined, bench-declined}
 use Rattle.loading.proofs.read_levels.Statement.{statement}
 use Rattle.loading.proofs.read_levels.Tie as tie
 
@@ -33,17 +33,18 @@ fill-requires c κs =
 
 returns : tie.Need-returns
 returns c =
-    let k = c .before in
+    let k = c .before .before in
     let j = k .before .before in
     let s = j .before .before .before in
     let a = s .args in
     let file = a .file .now in
-    read-declined file (a .tree-out .now) (a .numbers-out .now) (k .f .given .0 .0)
+    bench-declined file (a .tree-out .now) (a .numbers-out .now) (c .refused .result) (k .f .given .0 .0)
+    (c .refused .ensures)
     (levels-declined file (a .end) (a .from) (a .w) (a .h) (a .rows .now) (k .f .given .0 .0) (s .pre .0)
     (told j _ (k .f .given .1)))
 
 pub read-levels-spec : {M : Type 1} → statement M
 read-levels-spec =
     tie.close
-    (tie.spec levels-judge-requires (λ c. search needs) (λ c. search needs) fill-requires returns (λ c. search needs)
-    (λ c. search needs) (λ c. search needs))
+    (tie.spec levels-judge-requires (λ c. search needs) (λ c κs. search needs) (λ c. search needs) fill-requires returns
+    (λ c. search needs) (λ c. search needs) (λ c. search needs))

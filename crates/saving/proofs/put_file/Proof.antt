@@ -41,8 +41,8 @@ put-sides-requires c κs =
     let p = s .pre .0 in
     (p .small-W, p .small-H, omega (arith, s .pre .2, size s))
 
-put-tree-requires : tie.Need-put-tree-requires
-put-tree-requires c κs =
+put-field-requires : tie.Need-put-field-requires
+put-field-requires c κs =
     let sides = c .before .before .before in
     let s = sides .before .before .before .before in
     omega (arith, s .pre .2, size s, sides .put-sides .ensures .0, sides .put-sides .kept .1 .1 .0)
@@ -58,8 +58,8 @@ put-counts-requires c κs =
       size s,
       sides .put-sides .ensures .0,
       sides .put-sides .kept .1 .1 .0,
-      tree .put-tree .ensures .0,
-      tree .put-tree .kept .1 .0,
+      tree .put-field .ensures .0,
+      tree .put-field .kept .1 .1 .0,
     )
 
 put-levels-requires : tie.Need-put-levels-requires
@@ -81,8 +81,8 @@ put-levels-requires c κs =
         size s,
         sides .put-sides .ensures .0,
         sides .put-sides .kept .1 .1 .0,
-        tree .put-tree .ensures .0,
-        tree .put-tree .kept .1 .0,
+        tree .put-field .ensures .0,
+        tree .put-field .kept .1 .1 .0,
         counts .put-counts .ensures .0,
         counts .put-counts .kept .1 .0,
         counts-length (λ L. getD (s .args .counts) L 0),
@@ -90,17 +90,17 @@ put-levels-requires c κs =
     )
 
 -- the fields of the sides and of the tree
-front : (c : tie.After-put-tree)
+front : (c : tie.After-put-field)
     → let sides = c .before .before .before .before in
     let a = sides .before .before .before .before .args in
-    Put (fieldBytes 1 (a .w ∷ a .h ∷ []) ++ fieldBytes 2 (a .tree .now)) 0 (a .out .now) (c .put-tree .result)
-    (c .put-tree .last .1 .0)
+    Put (fieldBytes 1 (a .w ∷ a .h ∷ []) ++ fieldBytes 2 (a .tree .now)) 0 (a .out .now) (c .put-field .result)
+    (c .put-field .last .1 .1 .0)
 front c =
     let sides = c .before .before .before .before in
     let a = sides .before .before .before .before .args in
     put-both (fieldBytes 1 (a .w ∷ a .h ∷ [])) (fieldBytes 2 (a .tree .now)) 0 (a .out .now) (sides .put-sides .result)
-    (sides .put-sides .last .1 .1 .0) (c .put-tree .result) (c .put-tree .last .1 .0) (sides .put-sides .ensures)
-    (c .put-tree .ensures)
+    (sides .put-sides .last .1 .1 .0) (c .put-field .result) (c .put-field .last .1 .1 .0) (sides .put-sides .ensures)
+    (c .put-field .ensures)
 
 -- and that of the counts
 counted : (c : tie.After-put-counts)
@@ -118,9 +118,9 @@ counted c =
     let a = s .args in
     let found = counts-found (a .w) (a .h) (levelsOf (a .rows .now)) (a .counts) (s .pre .1) in
     put-both (fieldBytes 1 (a .w ∷ a .h ∷ []) ++ fieldBytes 2 (a .tree .now)) _ 0 (a .out .now)
-    (tree .put-tree .result) (tree .put-tree .last .1 .0) (c .put-counts .result) (c .put-counts .last .1 .0)
+    (tree .put-field .result) (tree .put-field .last .1 .1 .0) (c .put-counts .result) (c .put-counts .last .1 .0)
     (front tree)
-    (subst (λ b. Put (fieldBytes 3 b) (tree .put-tree .result) (tree .put-tree .last .1 .0) (c .put-counts .result)
+    (subst (λ b. Put (fieldBytes 3 b) (tree .put-field .result) (tree .put-field .last .1 .1 .0) (c .put-counts .result)
     (c .put-counts .last .1 .0)) found (c .put-counts .ensures))
 
 returns : tie.Need-returns
@@ -135,5 +135,5 @@ returns c =
 pub put-file-spec : {M : Type 1} → statement M
 put-file-spec =
     tie.close
-    (tie.spec put-sides-requires put-tree-requires put-counts-requires put-levels-requires (λ c. search needs)
+    (tie.spec put-sides-requires put-field-requires put-counts-requires put-levels-requires (λ c. search needs)
     returns)

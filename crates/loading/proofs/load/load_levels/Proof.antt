@@ -12,7 +12,7 @@ use Rattle.surface.specs.TableFile.{levelFields}
 use Rattle.surface.proofs.FileRefusals.{levels-size}
 use Rattle.coefficients.proofs.Parts.{level-fits, part-length}
 use Rattle.rows.specs.Rows.{levelsOf}
-use Rattle.loading.proofs.JudgeLaws.{levels-none, levels-next}
+use Rattle.judging.proofs.JudgeLaws.{levels-none, levels-next}
 use Rattle.loading.proofs.FileLaws.{level-due, LevelThere, level-there, below-none, below-next, below-all}
 use Rattle.loading.proofs.load.load_levels.Statement.{statement}
 use Rattle.loading.proofs.load.load_levels.Tie as tie
