@@ -37,9 +37,10 @@
 extern "C" {
 #endif
 
-/* The version of this header, which is that of the library it came with. The archive itself carries none. */
+/* The version of this header, which is that of the library it came with. The archive itself carries none: compile a
+   program with the header of the archive that it links. */
 #define KILN_VERSION_MAJOR 0
-#define KILN_VERSION_MINOR 3
+#define KILN_VERSION_MINOR 4
 #define KILN_VERSION_PATCH 0
 
 /* The table
@@ -71,7 +72,8 @@ extern "C" {
 
    A negative number that C turns into a size_t is far above every limit and is refused with its cause's number. */
 
-/* The causes of refusal, in words by kiln_refusal_words. Later versions may have more numbers. */
+/* The causes of refusal, in words by kiln_refusal_words. Later versions may have more numbers. 14 is also for a note
+   above 64 bytes that is lent to kiln_write_file: its field would have a wrong length, so the words serve for both. */
 enum kiln_refusal {
   KILN_DONE = 0,
   KILN_SIDE = 1,
@@ -128,10 +130,13 @@ static inline const char *kiln_refusal_words(uint8_t number) {
 /* The places of an 8 by 8 sheet, the greatest number of coefficients. */
 #define KILN_PLACES 6196
 
-/* No file that is accepted or written is longer: the fields' seven heads, the sides, the longest tree, eight bytes of
-   counts and five for each place. A file output of this length is never too short. A longer file is refused with the
-   same number when only its first KILN_FILE_BYTES + 1 bytes are lent. */
-#define KILN_FILE_BYTES 32376
+/* No note is longer, in bytes. */
+#define KILN_NOTE_BYTES 64
+
+/* No file that is accepted or written is longer: the fields' eight heads, the sides, the longest tree, eight bytes of
+   counts, five for each place and the longest note. A file output of this length is never too short. A longer file is
+   refused with the same number when only its first KILN_FILE_BYTES + 1 bytes are lent. */
+#define KILN_FILE_BYTES 32443
 
 /* D = 36 * 2^42: an exact reading of x watts has the numerator x * D. */
 #define KILN_DENOMINATOR INT64_C(158329674399744)
@@ -150,8 +155,8 @@ static inline size_t kiln_places(size_t w, size_t h) {
 }
 
 /* The places of the sheet of a table file, whose sides are its bytes 3 and 4: the length of the numbers output that
-   kiln_read_file needs. 0 where the file is too short to have sides or they are not 1 to 8, which is refused with
-   another number. */
+   kiln_read_file and kiln_read_bench need. 0 where the file is too short to have sides or they are not 1 to 8, which
+   is refused with another number. */
 static inline size_t kiln_file_places(const uint8_t *file, size_t file_len) {
   return file_len < 5 ? 0 : kiln_places(file[3], file[4]);
 }
@@ -295,11 +300,12 @@ uint8_t kiln_display(size_t w, size_t h, const uint8_t *tree, size_t tree_len, c
 uint8_t kiln_cost(size_t w, size_t h, const uint8_t *tree, size_t tree_len, const int64_t *numbers,
                   size_t numbers_len, size_t u, size_t v, size_t tariff, size_t *cost);
 
-/* Reads a table file. It has fields of a one-byte tag, a two-byte length (high byte first) and a body, in this order,
-   all present but tag 3's, which older files lack: tag 1, W and H, a byte each; tag 2, the tree; tag 3, how many
-   functions of levels 0 to 3 are active, two bytes each, high byte first, so of length 8; tags 16 to 19, the active
-   coefficients of levels 0 to 3 in slice order, five bytes each, two's complement, high byte first. What is read is an
-   acceptable table, the same with the counts as without them.
+/* Reads a table file, as a controller does: the note is passed over. The file has fields of a one-byte tag, a two-byte
+   length (high byte first) and a body, in this order, all present but tag 3's, which older files lack, and tag 32's,
+   which any may lack: tag 1, W and H, a byte each; tag 2, the tree; tag 3, how many functions of levels 0 to 3 are
+   active, two bytes each, high byte first, so of length 8; tags 16 to 19, the active coefficients of levels 0 to 3 in
+   slice order, five bytes each, two's complement, high byte first; tag 32, a note, 0 to 64 bytes of any kind. What is
+   read is an acceptable table, the same with the counts as without, and with a note, with another and with none.
 
    file          the whole file, any bytes
    tree_out      receives the tree; as long as the tree or longer (KILN_TREE_BYTES always is), and what is past the
@@ -308,26 +314,82 @@ uint8_t kiln_cost(size_t w, size_t h, const uint8_t *tree, size_t tree_len, cons
    length        receives the tree's length
    w, h          receive the sheet's sides
 
-   Refusals: 1, 2, 4, 12 to 17, 20, not the lowest but the first in byte order: for each field 12 for a head that is not
-   whole, 13, 14, 12 for a body that is not whole, then 1, 2, 20 or 4 for the contents of sides, tree, counts or
-   coefficients; after the last field 15, 16, 17. After the tree a tag of 3 or 16 is due, and 20 is for a count that is
-   not the tree's. A refusal leaves tree_out, numbers_out, length, w and h as they were. */
+   Refusals: 1, 2, 4, 12 to 17, 20, not the lowest but the first in byte order: for each field 12 for a head that is
+   not whole, 13, 14, 12 for a body that is not whole, then 1, 2, 20 or 4 for the contents of sides, tree, counts or
+   coefficients. After the tree a tag of 3 or 16 is due, and 20 is for a count that is not the tree's. After tag 19's
+   field the file ends or the note's comes: 15 is for a first byte other than 32, even where fewer than three bytes are
+   left; else 12 for a head that is not whole, 14 for a length above 64, 12 for a body that is not whole, then 15 for
+   bytes past the note. 16 and 17 come last. A refusal leaves tree_out, numbers_out, length, w and h as they were. */
 uint8_t kiln_read_file(const uint8_t *file, size_t file_len, uint8_t *tree_out, size_t tree_out_len,
                        int64_t *numbers_out, size_t numbers_out_len, size_t *length, size_t *w, size_t *h);
 
-/* Writes the table file of a table, in the form that kiln_read_file has, always with the counts of tag 3. Each
-   acceptable table has one such file: reading what was written gives the same sides, tree and coefficients, and writing
-   a table that was read gives the bytes of a file that had the counts, and of another one the same with the counts
-   added, 11 bytes more. kiln_file_counts tells the counts of what was written.
+/* Reads a table file, as a test stand does: it gives all that kiln_read_file gives, with the same refusals, and tells
+   where in the file the note stands. kiln_load_bench returns the same in one value.
+
+   file, tree_out, numbers_out, length, w, h   as for kiln_read_file
+   noted         receives 1 where a note stands in the file, also one of no bytes, and 0 where none does
+   note_offset   receives where in the file the note starts, file_len - note_length, so file_len itself for a note of
+                 no bytes; 0 where there is none
+   note_length   receives the note's length, 0 to 64, and 0 where there is none
+
+   Refusals: those of kiln_read_file, in the same order. A refusal leaves tree_out, numbers_out, length, w, h, noted,
+   note_offset and note_length as they were. */
+uint8_t kiln_read_bench(const uint8_t *file, size_t file_len, uint8_t *tree_out, size_t tree_out_len,
+                        int64_t *numbers_out, size_t numbers_out_len, size_t *length, size_t *w, size_t *h,
+                        uint8_t *noted, size_t *note_offset, size_t *note_length);
+
+/* The part of a file that a note is: length bytes from file + offset on. stands is 1, also for a note of no bytes,
+   whose offset is the file's length; where there is no note, it is 0, and so are offset and length. */
+typedef struct kiln_note {
+  uint8_t stands;
+  size_t offset;
+  size_t length;
+} kiln_note;
+
+/* What kiln_load_bench returns: the refusal number or 0, the tree's length, the sheet's sides and the note. */
+typedef struct kiln_bench {
+  uint8_t code;
+  size_t length;
+  size_t w;
+  size_t h;
+  kiln_note note;
+} kiln_bench;
+
+/* kiln_read_bench, with all that it gives in one value. After a refusal code is its number and all else is 0: no note
+   stands there and its part is empty; tree_out and numbers_out are as they were. */
+static inline kiln_bench kiln_load_bench(const uint8_t *file, size_t file_len, uint8_t *tree_out, size_t tree_out_len,
+                                         int64_t *numbers_out, size_t numbers_out_len) {
+  kiln_bench bench = {0, 0, 0, 0, {0, 0, 0}};
+  bench.code = kiln_read_bench(file, file_len, tree_out, tree_out_len, numbers_out, numbers_out_len, &bench.length,
+                               &bench.w, &bench.h, &bench.note.stands, &bench.note.offset, &bench.note.length);
+  return bench;
+}
+
+/* Writes the table file of a table, in the form that kiln_read_file has, always with the counts of tag 3, and with a
+   note or none. Each acceptable table has one such file for each note and one for none: reading what was written gives
+   the same sides, tree, coefficients and note. Writing a table that was read, with the note that was read, gives the
+   bytes of a file that had the counts, and of another one the same with the counts added, 11 bytes more.
+   kiln_file_counts tells the counts of what was written.
+
+   A note that kiln_read_bench told is kept by passing it on: noted, file + note_offset, note_length. As a part of the
+   file that was read it must not overlap file_out. kiln_read_file tells of no note, so that what it read is saved with
+   none: the note is gone.
 
    w, h, tree, numbers   the table; it is not changed
-   file_out              receives the file; as long as the file or longer (KILN_FILE_BYTES always is), and what is past
-                         the file is untouched
+   noted                 0 for no note, any other number for one
+   note                  the note, 0 to 64 bytes of any kind; where noted is 0 it is passed over, whatever it holds and
+                         however long it is (NULL and 0 will do)
+   file_out              receives the file; as long as the file, with its note, or longer (KILN_FILE_BYTES always is),
+                         and what is past the file is untouched
    length                receives the file's length
 
-   Refusals: 1 to 5, 18. A refusal leaves file_out and length as they were. */
+   Refusals: 1 to 5, 14 for a note of above 64 bytes, 18. A refusal leaves file_out and length as they were.
+
+   noted, note and note_len are new in 0.4.0. A program compiled with an earlier header still links, and its call is
+   undefined: it must be compiled anew. */
 uint8_t kiln_write_file(size_t w, size_t h, const uint8_t *tree, size_t tree_len, const int64_t *numbers,
-                        size_t numbers_len, uint8_t *file_out, size_t file_out_len, size_t *length);
+                        size_t numbers_len, uint8_t noted, const uint8_t *note, size_t note_len, uint8_t *file_out,
+                        size_t file_out_len, size_t *length);
 
 #ifdef __cplusplus
 }

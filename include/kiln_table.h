@@ -81,11 +81,28 @@ static inline uint8_t kiln_table_read_file(const uint8_t *file, size_t file_len,
   return refused;
 }
 
-/* kiln_write_file. */
+/* kiln_load_bench. The table that made receives lies in the room. A refusal leaves room and made as they were; what is
+   returned then has its number as code, and says that no note stands there. */
+static inline kiln_bench kiln_table_load_bench(const uint8_t *file, size_t file_len, struct kiln_room room,
+                                               struct kiln_table *made) {
+  kiln_bench bench = kiln_load_bench(file, file_len, room.tree, room.tree_len, room.numbers,
+                                     kiln_room_places(room, kiln_file_places(file, file_len)));
+  if (!bench.code) kiln_room_written(room, bench.w, bench.h, bench.length, made);
+  return bench;
+}
+
+/* kiln_write_file, with a note or, where noted is 0, none. The note of a bench that was loaded from file is kept by
+   passing on bench.note.stands, file + bench.note.offset and bench.note.length; file_out must not overlap it. */
+static inline uint8_t kiln_table_write_noted(const struct kiln_table *table, uint8_t noted, const uint8_t *note,
+                                             size_t note_len, uint8_t *file_out, size_t file_out_len, size_t *length) {
+  return kiln_write_file(table->w, table->h, table->tree, table->tree_len, table->numbers, table->numbers_len, noted,
+                         note, note_len, file_out, file_out_len, length);
+}
+
+/* kiln_write_file, with no note. */
 static inline uint8_t kiln_table_write_file(const struct kiln_table *table, uint8_t *file_out, size_t file_out_len,
                                             size_t *length) {
-  return kiln_write_file(table->w, table->h, table->tree, table->tree_len, table->numbers, table->numbers_len, file_out,
-                         file_out_len, length);
+  return kiln_table_write_noted(table, 0, NULL, 0, file_out, file_out_len, length);
 }
 
 /* kiln_fresh. The table that made receives lies in the room. A refusal leaves room and made as they were. */

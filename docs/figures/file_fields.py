@@ -10,7 +10,7 @@ from drawing import FAINT, LEVEL_FILLS, MARK, Picture
 from surface import LEVELS
 
 ROOT = Path(__file__).resolve().parents[2]
-TABLE = "bench-s-level-1-counted"
+TABLE = "bench-s-level-1-noted"
 SIDE, LEFT, TOP, ROW = 34, 64, 92, 66
 BODY = LEFT + 3 * SIDE + 30
 SHOWN = 15
@@ -25,6 +25,9 @@ def told(tag: int, body: bytes, numbers: List[int]) -> str:
     if tag == tablefile.TAG_COUNTS:
         return (f"counts of active functions, two bytes for each level: {', '.join(map(str, numbers))}; "
                 "a file that is read may lack them")
+    if tag == tablefile.TAG_NOTE:
+        return (f'a note of 0 to 64 bytes, here "{body.decode()}"; optional, and controllers pass over it; '
+                "another tag here is 15")
     level = tag - tablefile.TAG_LEVEL_0
     words = f"active coefficients of level {level}, five bytes each"
     if not body:
@@ -45,8 +48,9 @@ def numbers_of(content: tablefile.Content, tag: int, body: bytes) -> Tuple[List[
 
 
 def file_fields() -> str:
-    content = tablefile.judge((ROOT / "tables" / f"{TABLE}.table").read_bytes())
-    fields = tablefile.table_fields(*content)
+    file = (ROOT / "tables" / f"{TABLE}.table").read_bytes()
+    content = tablefile.judge(file)
+    fields = tablefile.table_fields(*content, note=tablefile.note_of(file))
     picture = Picture(BODY + 21 * SIDE, TOP + ROW * len(fields))
     heads: List[Tuple[float, str, str]] = [
         (LEFT + SIDE / 2, "tag", "else 13"),
@@ -65,7 +69,7 @@ def file_fields() -> str:
         y = TOP + row * ROW
         numbers, size = numbers_of(content, tag, body)
         # Dashed: a file may lack it.
-        lacking = tag == tablefile.TAG_COUNTS
+        lacking = tag in (tablefile.TAG_COUNTS, tablefile.TAG_NOTE)
         picture.text(LEFT - 12, y + 22, str(at), at="end", colour=FAINT)
         for k, byte in enumerate(tablefile.field(tag, body)[:3]):
             x = LEFT + k * SIDE + (8 if k else 0)

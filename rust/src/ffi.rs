@@ -56,9 +56,14 @@ extern "C" {
         file: *const u8, file_len: usize, tree_out: *mut u8, tree_out_len: usize, numbers_out: *mut i64,
         numbers_out_len: usize, length: *mut usize, w: *mut usize, h: *mut usize,
     ) -> u8;
+    fn kiln_read_bench(
+        file: *const u8, file_len: usize, tree_out: *mut u8, tree_out_len: usize, numbers_out: *mut i64,
+        numbers_out_len: usize, length: *mut usize, w: *mut usize, h: *mut usize, noted: *mut u8,
+        note_offset: *mut usize, note_length: *mut usize,
+    ) -> u8;
     fn kiln_write_file(
-        w: usize, h: usize, tree: *const u8, tree_len: usize, numbers: *const i64, numbers_len: usize,
-        file_out: *mut u8, file_out_len: usize, length: *mut usize,
+        w: usize, h: usize, tree: *const u8, tree_len: usize, numbers: *const i64, numbers_len: usize, noted: u8,
+        note: *const u8, note_len: usize, file_out: *mut u8, file_out_len: usize, length: *mut usize,
     ) -> u8;
 }
 
@@ -200,14 +205,60 @@ pub fn read_file(file: &[u8], tree_out: &mut [u8], numbers_out: &mut [i64]) -> A
     unless_refused(n, (length, w, h))
 }
 
+/// Where in a file its note starts, and the note's length.
+pub type NotePart = (usize, usize);
+
+/// The tree's length, W and H, and the note's part of the file, if there is a note.
+pub fn read_bench(
+    file: &[u8], tree_out: &mut [u8], numbers_out: &mut [i64],
+) -> Answer<(usize, usize, usize, Option<NotePart>)> {
+    let (mut length, mut w, mut h) = (0, 0, 0);
+    let (mut noted, mut note_offset, mut note_length) = (0, 0, 0);
+    // SAFETY: reads the file's slice; writes two slices that are borrowed for writing, so apart from it and from each
+    // other, and six local values.
+    let n = unsafe {
+        kiln_read_bench(
+            file.as_ptr(),
+            file.len(),
+            tree_out.as_mut_ptr(),
+            tree_out.len(),
+            numbers_out.as_mut_ptr(),
+            numbers_out.len(),
+            &mut length,
+            &mut w,
+            &mut h,
+            &mut noted,
+            &mut note_offset,
+            &mut note_length,
+        )
+    };
+    unless_refused(n, (length, w, h, (noted != 0).then_some((note_offset, note_length))))
+}
+
 /// The file's length.
-pub fn write_file([w, h]: [usize; 2], tree: &[u8], numbers: &[i64], file_out: &mut [u8]) -> Answer<usize> {
+pub fn write_file(
+    [w, h]: [usize; 2], tree: &[u8], numbers: &[i64], note: Option<&[u8]>, file_out: &mut [u8],
+) -> Answer<usize> {
     let mut length = 0;
-    let (tree_len, numbers_len, file_len) = (tree.len(), numbers.len(), file_out.len());
-    let (tree, numbers, file_out) = (tree.as_ptr(), numbers.as_ptr(), file_out.as_mut_ptr());
-    // SAFETY: reads two slices that are borrowed for reading; writes one that is borrowed for writing, so apart from
+    let (noted, note) = (u8::from(note.is_some()), note.unwrap_or_default());
+    // SAFETY: reads three slices that are borrowed for reading; writes one that is borrowed for writing, so apart from
     // those, and a local value.
-    let n = unsafe { kiln_write_file(w, h, tree, tree_len, numbers, numbers_len, file_out, file_len, &mut length) };
+    let n = unsafe {
+        kiln_write_file(
+            w,
+            h,
+            tree.as_ptr(),
+            tree.len(),
+            numbers.as_ptr(),
+            numbers.len(),
+            noted,
+            note.as_ptr(),
+            note.len(),
+            file_out.as_mut_ptr(),
+            file_out.len(),
+            &mut length,
+        )
+    };
     unless_refused(n, length)
 }
 
@@ -224,21 +275,41 @@ mod tests {
         }
     }
 
-    // The file of a sheet of 1 by 1 has 112 bytes: the crate lends more for it, so only this shows the refusal.
+    // The file of a sheet of 1 by 1 has 112 bytes, and a note of n bytes adds 3 + n: the crate lends more for it, so
+    // only this shows the refusal.
     #[test]
     fn a_file_output_that_is_too_short_is_refused_and_left() {
         let numbers = [[5; 16].as_slice(), &[0; 195]].concat();
-        for lent in 0..=114 {
-            let mut file = vec![9; lent];
-            let saved = write_file([1, 1], &[0], &numbers, &mut file).map_err(NonZeroU8::get);
-            if lent < 112 {
-                assert_eq!((saved, file), (Err(18), vec![9; lent]));
-            } else {
-                assert_eq!((saved, file[109..112].to_vec()), (Ok(112), vec![19, 0, 0]));
-                assert!(file[112..].iter().all(|&byte| byte == 9));
+        let longest: Vec<u8> = (0..64).collect();
+        for note in [None, Some(&longest[..0]), Some(&longest[..7]), Some(&longest[..])] {
+            let end = note.map_or(vec![], |note| [&[32, 0, note.len() as u8], note].concat());
+            let due = 112 + end.len();
+            for lent in 0..=due + 2 {
+                let mut file = vec![9; lent];
+                let saved = write_file([1, 1], &[0], &numbers, note, &mut file).map_err(NonZeroU8::get);
+                if lent < due {
+                    assert_eq!((saved, file), (Err(18), vec![9; lent]));
+                } else {
+                    assert_eq!((saved, &file[109..112], &file[112..due]), (Ok(due), &[19, 0, 0][..], &end[..]));
+                    assert!(file[due..].iter().all(|&byte| byte == 9));
+                }
             }
         }
+    }
+
+    // "1 to 5, 14, 18": a bad table before a note above 64 bytes, and that before an output that is too short.
+    #[test]
+    fn a_table_is_judged_before_a_note_and_that_before_the_output() {
+        let good = [[5; 16].as_slice(), &[0; 195]].concat();
         let over = [[32_001; 16].as_slice(), &[0; 195]].concat();
-        assert_eq!(write_file([1, 1], &[0], &over, &mut [9; 111]).map_err(NonZeroU8::get), Err(4));
+        let note = [7; 65];
+        for (numbers, note, due) in
+            [(&over, Some(&note[..]), 4), (&over, None, 4), (&good, Some(&note), 14), (&good, Some(&note[1..]), 18)]
+        {
+            let mut file = [9; 111];
+            assert_eq!(write_file([1, 1], &[0], numbers, note, &mut file).map_err(NonZeroU8::get), Err(due));
+            assert_eq!(file, [9; 111]);
+        }
+        assert_eq!(write_file([1, 1], &[0], &good, Some(&note), &mut [9; 500]).map_err(NonZeroU8::get), Err(14));
     }
 }

@@ -26,13 +26,15 @@
 //!
 //! The library is the archive `libkiln.a`, for x86-64, which `rt staticlib kiln` writes to `target/staticlib` in its
 //! repository. It is looked for there, beside this crate's folder, or in the folder that the environment variable
-//! `KILN_LIB_DIR` names to cargo, best as a full path. Documentation and `cargo check` do without it.
+//! `KILN_LIB_DIR` names to cargo, best as a full path. It must be of this crate's version: one of another may link,
+//! and calls whose parameters differ are undefined. Documentation and `cargo check` do without it.
 #![deny(unsafe_code)]
 #![warn(missing_docs)]
 
-// Each of ffi, refusal, sizes, place, table, readings and around uses only those before it.
+// Each of ffi, refusal, sizes, place, table, file, readings and around uses only those before it.
 mod around;
 mod ffi;
+mod file;
 mod place;
 mod readings;
 mod refusal;
@@ -42,5 +44,5 @@ mod table;
 pub use around::ActiveFunction;
 pub use place::{Point, QuarterBox};
 pub use refusal::Refusal;
-pub use sizes::{file_counts, level_places, place_of, places, DENOMINATOR, FILE_BYTES, TREE_BYTES};
+pub use sizes::{file_counts, level_places, place_of, places, DENOMINATOR, FILE_BYTES, NOTE_BYTES, TREE_BYTES};
 pub use table::{Least, Table};

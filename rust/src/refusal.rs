@@ -6,7 +6,8 @@ use std::num::NonZeroU8;
 macro_rules! refusals {
     ($($number:literal $name:ident $words:literal)*) => {
         /// Why a call was refused. Where several causes apply it is the one of the lowest number; a file is judged in
-        /// byte order. Later versions of the library may have more.
+        /// byte order. Later versions of the library may have more. A note that is too long to be saved would have a
+        /// field of wrong length, and is refused as one.
         ///
         /// It shows its number and its words, also where `main` returns it.
         ///

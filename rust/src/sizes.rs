@@ -16,15 +16,27 @@ pub const DENOMINATOR: i64 = 158_329_674_399_744;
 /// ```
 pub const TREE_BYTES: usize = 1_365;
 
+/// No note in a table file is longer, in bytes.
+///
+/// ```
+/// // After the file's other fields comes the note's head, a tag and two bytes of its length, and then the note.
+/// let table = kiln::Table::fresh(1, 1, 0)?;
+/// let file = table.to_file_with_note(Some(&[7; kiln::NOTE_BYTES]))?;
+/// assert_eq!(file.len(), table.to_file().len() + 3 + 64);
+/// # Ok::<(), kiln::Refusal>(())
+/// ```
+pub const NOTE_BYTES: usize = 64;
+
 /// No table file is longer, in bytes.
 ///
 /// ```
-/// use kiln::{places, FILE_BYTES, TREE_BYTES};
+/// use kiln::{places, FILE_BYTES, NOTE_BYTES, TREE_BYTES};
 ///
-/// // Seven heads of three bytes, two sides, the longest tree, four counts of two bytes, five bytes for each place.
-/// assert_eq!(FILE_BYTES, 7 * 3 + 2 + TREE_BYTES + 4 * 2 + 5 * places(8, 8));
+/// // Eight heads of three bytes, two sides, the longest tree, four counts of two bytes, five bytes for each place and
+/// // the longest note.
+/// assert_eq!(FILE_BYTES, 8 * 3 + 2 + TREE_BYTES + 4 * 2 + 5 * places(8, 8) + NOTE_BYTES);
 /// ```
-pub const FILE_BYTES: usize = 32_376;
+pub const FILE_BYTES: usize = 32_443;
 
 /// The places of one level of a `w` by `h` sheet; 0 for a side that is not 1 to 8 or a level that is not 0 to 3.
 ///
@@ -104,7 +116,7 @@ pub fn place_of(w: usize, h: usize, level: usize, i: i64, j: i64) -> Option<usiz
 /// assert_eq!(file_counts(&file[..32]), Some([16, 10, 0, 0]));
 /// assert!((0..32).all(|cut| file_counts(&file[..cut]).is_none()));
 ///
-/// // A file without counts, as earlier versions wrote it: the same table, which saving gives its counts.
+/// // A file without counts, as versions before 0.3.0 wrote it: the same table, which saving gives its counts.
 /// let older = [&file[..21], &file[32..]].concat();
 /// assert_eq!(file_counts(&older), None);
 /// assert_eq!(Table::from_file(&older)?.to_file(), file);

@@ -2,7 +2,7 @@
 use crate::ffi;
 use crate::place::QuarterBox;
 use crate::refusal::Refusal;
-use crate::sizes::{level_places, places, FILE_BYTES, TREE_BYTES};
+use crate::sizes::{level_places, places, TREE_BYTES};
 
 /// An acceptable table: a sheet, the tree of its regions and its coefficients, all owned.
 ///
@@ -72,90 +72,6 @@ impl Table {
         Ok(Table { w, h, tree, numbers })
     }
 
-    /// The table of a table file.
-    ///
-    /// A file that lacks the counts of active functions, as earlier versions wrote it, makes the same table as one
-    /// that has them.
-    ///
-    /// Refused: a file that is cut short, has another tag or length than the one due, goes on after its last field,
-    /// has sides, a tree or coefficients that no acceptable table has, or counts that are not those of its tree; the
-    /// first of these in byte order.
-    ///
-    /// ```
-    /// use kiln::{Point, Refusal, Table, DENOMINATOR};
-    ///
-    /// // Columns of -1,000, 0, 1,000 and 2,000 watts on a sheet of 1 by 1, without counts.
-    /// let mut file = vec![1, 0, 2, 1, 1, 2, 0, 1, 0, 16, 0, 80];
-    /// for number in [-1_000_i64, 0, 1_000, 2_000].repeat(4) {
-    ///     file.extend(&number.to_be_bytes()[3..]);
-    /// }
-    /// file.extend([17, 0, 0, 18, 0, 0, 19, 0, 0]);
-    /// let table = Table::from_file(&file)?;
-    /// assert_eq!((table.width(), table.height(), table.tree()), (1, 1, &[0][..]));
-    /// assert_eq!(table.exact(Point::new(64, 5))?, 500 * DENOMINATOR);
-    /// // The corners that the corner program prints for it.
-    /// assert_eq!(table.display(Point::new(0, 128))?, 0);
-    /// assert_eq!(table.display(Point::new(128, 128))?, 1_000);
-    ///
-    /// // The counts, 16 of level 0 and no others, follow the tree.
-    /// let counted = |counts: [u8; 8]| [&file[..9], &[3, 0, 8], &counts, &file[9..]].concat();
-    /// assert_eq!(Table::from_file(&counted([0, 16, 0, 0, 0, 0, 0, 0]))?, table);
-    /// assert_eq!(Table::from_file(&counted([0, 15, 0, 0, 0, 0, 0, 0])), Err(Refusal::FileCount));
-    /// assert_eq!(Table::from_file(&counted([0, 16, 0, 0, 0, 0, 1, 0])), Err(Refusal::FileCount));
-    ///
-    /// let whole = file.len();
-    /// assert!((0..whole).all(|cut| Table::from_file(&file[..cut]) == Err(Refusal::FileEnds)));
-    /// file.push(0);
-    /// assert_eq!(Table::from_file(&file), Err(Refusal::FileGoesOn));
-    /// file[0] = 2;
-    /// assert_eq!(Table::from_file(&file), Err(Refusal::FileTag));
-    /// # Ok::<(), Refusal>(())
-    /// ```
-    pub fn from_file(file: &[u8]) -> Result<Table, Refusal> {
-        // A file that is accepted has its sides in bytes 3 and 4. Any other is refused before the output's length is
-        // judged.
-        let places = match file {
-            [_, _, _, w, h, ..] => places(usize::from(*w), usize::from(*h)),
-            _ => 0,
-        };
-        let (mut tree, mut numbers) = (vec![0; TREE_BYTES], vec![0; places]);
-        let (length, w, h) = ffi::read_file(file, &mut tree, &mut numbers)?;
-        tree.truncate(length);
-        Ok(Table { w, h, tree, numbers })
-    }
-
-    /// The bytes of this table's file, of which [`from_file`](Table::from_file) makes the same table again. The file
-    /// has the counts of active functions, which [`file_counts`](crate::file_counts) reads off. Each table has one
-    /// such file, so saving a table that was loaded gives the bytes of a file that had the counts, and of another one
-    /// the same with the counts added, 11 bytes more. It is never refused.
-    ///
-    /// ```
-    /// use kiln::{Point, QuarterBox, Table};
-    ///
-    /// let table = Table::fresh(8, 4, 1_500)?;
-    /// let finer = table.insert(QuarterBox::new(28, 4, 32, 8), 3)?;
-    /// let file = finer.to_file();
-    /// let again = Table::from_file(&file)?;
-    /// assert_eq!(again, finer);
-    /// assert_eq!(again.to_file(), file);
-    /// assert_eq!(again.exact(Point::new(900, 200))?, table.exact(Point::new(900, 200))?);
-    ///
-    /// // Sides, tree and counts, then 16 coefficients of -1 watt, and none of levels 1 to 3.
-    /// let small = Table::fresh(1, 1, -1)?.to_file();
-    /// assert_eq!(small[..9], [1, 0, 2, 1, 1, 2, 0, 1, 0]);
-    /// assert_eq!(small[9..23], [3, 0, 8, 0, 16, 0, 0, 0, 0, 0, 0, 16, 0, 80]);
-    /// assert_eq!(small[23..103], [0xff; 80]);
-    /// assert_eq!(small[103..], [17, 0, 0, 18, 0, 0, 19, 0, 0]);
-    /// # Ok::<(), kiln::Refusal>(())
-    /// ```
-    pub fn to_file(&self) -> Vec<u8> {
-        let mut file = vec![0; FILE_BYTES];
-        // Nothing is refused: a table is acceptable, and no file is longer than the output.
-        let length = ffi::write_file(self.sheet(), &self.tree, &self.numbers, &mut file).expect("a table has a file");
-        file.truncate(length);
-        file
-    }
-
     /// The table of a sheet, a tree and coefficients, each a copy of what is given.
     ///
     /// Refused: whatever is not an acceptable table.
@@ -182,6 +98,11 @@ impl Table {
     pub fn from_parts(w: usize, h: usize, tree: &[u8], numbers: &[i64]) -> Result<Table, Refusal> {
         ffi::table_cause([w, h], tree, numbers)?;
         Ok(Table { w, h, tree: tree.to_vec(), numbers: numbers.to_vec() })
+    }
+
+    // Only for what a call of the library wrote, which is an acceptable table.
+    pub(crate) fn written(w: usize, h: usize, tree: Vec<u8>, numbers: Vec<i64>) -> Table {
+        Table { w, h, tree, numbers }
     }
 
     pub(crate) fn sheet(&self) -> [usize; 2] {

@@ -6,11 +6,11 @@ from __future__ import annotations
 
 from typing import Callable, Dict, List, NamedTuple
 
-from measure import BEYOND, LARGEST, LARGEST_FILE, MEASURED, READ, READ_UNCOUNTED, READINGS, UNREFINED, Figures
-from measure import calls_on, counted_on
+from measure import BEYOND, LARGEST, LARGEST_FILE, LOADS, MEASURED, OF_FILES, READ, READ_UNCOUNTED, READINGS
+from measure import UNREFINED, WRITES, Figures, calls_on, counted_on
 
 RATIO = 1.35
-RATIO_OF_WRITING = 1.2
+RATIO_OF_FILES = 1.2
 CHECK = 150_000
 CHECK_UNREFINED = 64_000
 INSERTION = 450_000
@@ -27,6 +27,17 @@ READ_BEFORE_COUNTS = {
     "8 by 8, all of level 3": 220_558,
 }
 MORE_FOR_COUNTS = 1_000
+# What file reading took before files had notes, of the file of each table with counts and without.
+READ_BEFORE_NOTE = {
+    "1 by 1, unrefined": (5_002, 4_965),
+    "1 by 1, fully split": (7_615, 7_578),
+    "4 by 4, unrefined": (13_046, 13_009),
+    "4 by 4, fully split": (30_602, 30_565),
+    "8 by 8, unrefined": (26_141, 26_104),
+    "8 by 8, fully split": (87_557, 87_520),
+    "8 by 8, all of level 3": (219_152, 219_115),
+}
+MORE_FOR_NOTE = 500
 READING_BEYOND_CHECK = 6_000
 READING = CHECK + READING_BEYOND_CHECK
 STACK = 8_192
@@ -59,6 +70,17 @@ def more_for_counts(figures: Figures) -> Dict[str, float]:
             for table, ours in figures.library.items() for call in (READ, READ_UNCOUNTED)}
 
 
+def before_note(table: str, call: str) -> int:
+    """What file reading took of the same table's file, with the same counts or none, before files had notes."""
+    return READ_BEFORE_NOTE[table][call == READ_UNCOUNTED]
+
+
+def more_for_note(figures: Figures) -> Dict[str, float]:
+    """The instructions of file reading beyond those before files had notes: by both loaders, with or without one."""
+    return {f"{MEASURED[call]}, {table}": ours.counts[call] - before_note(table, call)
+            for table, ours in figures.library.items() for call in LOADS}
+
+
 def beyond(figures: Figures) -> Dict[str, float]:
     return {table: ours.counts[BEYOND] for table, ours in figures.library.items() if BEYOND in counted_on(table)}
 
@@ -73,20 +95,21 @@ def corners(figures: Figures) -> Dict[str, float]:
 
 
 BARS = {
-    "ratio": Bar("instructions over those of the C program, of a call but file writing, and of an exact reading beyond "
-                 "the table check", RATIO, ratios(lambda call: call != "write_file")),
-    "ratio of writing": Bar("instructions over those of the C program, of file writing", RATIO_OF_WRITING,
-                            ratios(lambda call: call == "write_file")),
+    "ratio": Bar("instructions over those of the C program, of a call but of files, and of an exact reading beyond the "
+                 "table check", RATIO, ratios(lambda call: call not in OF_FILES)),
+    "ratio of files": Bar("instructions over those of the C program, of file reading, by either loader, and of file "
+                          "writing", RATIO_OF_FILES, ratios(lambda call: call in OF_FILES)),
     "check": Bar(f"instructions of the table check, {LARGEST}", CHECK, counts(LARGEST, "table_cause")),
     "unrefined": Bar(f"instructions of the table check, {UNREFINED}", CHECK_UNREFINED,
                      counts(UNREFINED, "table_cause")),
     "reading": Bar(f"instructions of a reading, {LARGEST}", READING, counts(LARGEST, *READINGS)),
     "insertion": Bar(f"instructions of an insertion, {LARGEST}", INSERTION, counts(LARGEST, "insert")),
-    "file reading": Bar("instructions of reading the largest file", FILE_READING,
-                        counts(LARGEST_FILE, READ, READ_UNCOUNTED)),
+    "file reading": Bar("instructions of reading the largest file", FILE_READING, counts(LARGEST_FILE, *LOADS)),
     "counts": Bar("instructions of file reading beyond those before files had counts, of a file with them or without",
                   MORE_FOR_COUNTS, more_for_counts),
-    "file writing": Bar("instructions of writing the largest file", FILE_WRITING, counts(LARGEST_FILE, "write_file")),
+    "note": Bar("instructions of file reading beyond those before files had notes, by either loader, of a file with a "
+                "note or without", MORE_FOR_NOTE, more_for_note),
+    "file writing": Bar("instructions of writing the largest file", FILE_WRITING, counts(LARGEST_FILE, *WRITES)),
     "beyond": Bar("instructions of an exact reading beyond the table check", READING_BEYOND_CHECK, beyond),
     "stack": Bar("bytes of stack of a call", STACK, stacks),
     "corners": Bar("instructions of the corner program over those of reading its file, the largest", CORNERS, corners),

@@ -1,7 +1,7 @@
-/* Makes each call once on a table and its two files, with counts and without, given on standard input: of the library
-   (PREFIX kiln_) or of plain C (plain_). Run as `bench count` under callgrind it leaves one dump for each call, named
-   like it; run as `bench stack` it prints the bytes of stack of each call, as `bench time` the nanoseconds of each
-   call. With names of calls after that it makes those calls only. */
+/* Makes each call once on a table, its files, with counts, without, and with counts and a note, and that note, given on
+   standard input: of the library (PREFIX kiln_) or of plain C (plain_). Run as `bench count` under callgrind it leaves
+   one dump for each call, named like it; run as `bench stack` it prints the bytes of stack of each call, as
+   `bench time` the nanoseconds of each call. With names of calls after that it makes those calls only. */
 #include "plain.h"
 
 #include <pthread.h>
@@ -12,13 +12,14 @@
 #include <time.h>
 #include <valgrind/callgrind.h>
 
-static size_t w, h, tree_len, numbers_len, file_len, uncounted_len;
-static uint8_t tree[1365], out[4489], tree_out[1365], file[32376], uncounted[32365], file_out[32376];
+static size_t w, h, tree_len, numbers_len, file_len, uncounted_len, with_note_len, note_len;
+static uint8_t tree[1365], out[4489], tree_out[1365], file[32376], uncounted[32365], with_note[32443], note[64];
+static uint8_t file_out[32443];
 static int64_t numbers[6196], numbers_out[6196];
 
 /* What the calls give beside a refusal number. */
-static uint8_t level;
-static size_t amount, wide, high;
+static uint8_t level, noted;
+static size_t amount, wide, high, note_at, note_size;
 
 static unsigned nothing(void) {
   return 0;
@@ -78,8 +79,28 @@ static unsigned read_uncounted(void) {
                          &high);
 }
 
+static unsigned read_noted(void) {
+  return CALL(read_file)(with_note, with_note_len, tree_out, sizeof tree_out, numbers_out, numbers_len, &amount, &wide,
+                         &high);
+}
+
+static unsigned read_bench(void) {
+  return CALL(read_bench)(file, file_len, tree_out, sizeof tree_out, numbers_out, numbers_len, &amount, &wide, &high,
+                          &noted, &note_at, &note_size);
+}
+
+static unsigned bench_noted(void) {
+  return CALL(read_bench)(with_note, with_note_len, tree_out, sizeof tree_out, numbers_out, numbers_len, &amount, &wide,
+                          &high, &noted, &note_at, &note_size);
+}
+
 static unsigned write_file(void) {
-  return CALL(write_file)(w, h, tree, tree_len, numbers, numbers_len, file_out, sizeof file_out, &amount);
+  return CALL(write_file)(w, h, tree, tree_len, numbers, numbers_len, 0, note, 0, file_out, sizeof file_out, &amount);
+}
+
+static unsigned write_noted(void) {
+  return CALL(write_file)(w, h, tree, tree_len, numbers, numbers_len, 1, note, note_len, file_out, sizeof file_out,
+                          &amount);
 }
 
 struct call {
@@ -91,7 +112,8 @@ static const struct call calls[] = {
   {"nothing", nothing}, {"table_cause", table_cause}, {"least_level", least_level}, {"activity", activity},
   {"fresh", fresh}, {"set", set},
   {"insert", insert}, {"exact", exact}, {"watts", watts}, {"display", display}, {"cost", cost},
-  {"read_file", read_file}, {"read_uncounted", read_uncounted}, {"write_file", write_file},
+  {"read_file", read_file}, {"read_uncounted", read_uncounted}, {"read_noted", read_noted},
+  {"read_bench", read_bench}, {"bench_noted", bench_noted}, {"write_file", write_file}, {"write_noted", write_noted},
 };
 
 enum { CALLS = sizeof calls / sizeof *calls, DEPTH = 1 << 17, UNUSED = 0xA5 };
@@ -175,22 +197,26 @@ static bool get_file(uint8_t *to, size_t most, size_t *n) {
   return scanf("%zu", n) == 1 && *n <= most && get_bytes(to, *n);
 }
 
-/* Reads the table and its files. */
+/* Reads the table, its files and the note. */
 static bool get_input(void) {
   if (scanf("%zu %zu %zu", &w, &h, &tree_len) != 3 || tree_len > sizeof tree) return false;
   if (!get_bytes(tree, tree_len)) return false;
   if (scanf("%zu", &numbers_len) != 1 || numbers_len > sizeof numbers / sizeof *numbers) return false;
   for (size_t i = 0; i < numbers_len; i++)
     if (scanf("%ld", &numbers[i]) != 1) return false;
-  return get_file(file, sizeof file, &file_len) && get_file(uncounted, sizeof uncounted, &uncounted_len);
+  return get_file(file, sizeof file, &file_len) && get_file(uncounted, sizeof uncounted, &uncounted_len)
+    && get_file(with_note, sizeof with_note, &with_note_len) && get_file(note, sizeof note, &note_len);
 }
 
 int main(int argc, char **argv) {
   char **names = argv + 2;
   if (argc < 2 || !get_input()) return 2;
-  /* No call may refuse; made once beforehand, none pays for being the first. */
+  /* No call may refuse; made once beforehand, none pays for being the first. A note is read and written where one is
+     named. */
   for (int k = 0; k < CALLS; k++)
     if (asked(&calls[k], names) && calls[k].make()) return 1;
+  if (bench_noted() || noted != 1 || note_size != note_len) return 1;
+  if (write_noted() || amount != with_note_len) return 1;
   if (!strcmp(argv[1], "stack"))
     for (int k = 0; k < CALLS; k++)
       if (asked(&calls[k], names)) printf("%s %zu\n", calls[k].name, depth(&calls[k]));

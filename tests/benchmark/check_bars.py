@@ -14,10 +14,13 @@ from typing import Callable, Iterator, List, Tuple
 sys.dont_write_bytecode = True
 
 import bars
-from measure import BEYOND, CALLS, LARGEST, LARGEST_FILE, MEASURED, READ, READ_UNCOUNTED, READINGS, UNREFINED, ROOT
+from measure import BEYOND, CALLS, LARGEST, LARGEST_FILE, MEASURED, READ, READ_UNCOUNTED, READINGS, ROOT, UNREFINED
 from measure import Figures, Measured, all_figures, calls_on, counted_on, table_names
 
 PAGE, HEADER = ROOT / "docs/BENCHMARKS.md", ROOT / "include/kiln.h"
+# What reads a file, and what writes one, named here again.
+READ_BY = (READ, READ_UNCOUNTED, "read_noted", "read_bench", "bench_noted")
+WRITTEN = ("write_file", "write_noted")
 # The bar's name, where its figure is taken, made-up figures of which that one is so far past the bar, and the names of
 # lower bars of the same figure, which it is past by then.
 Push = Tuple[str, str, Callable[[int], Figures], Tuple[str, ...]]
@@ -55,12 +58,16 @@ def pushes() -> Iterator[Push]:
     """Every figure that a bar is held of, by itself: no code of bars.py says which these are."""
     for table in table_names():
         for call in calls_on(table):
-            name, bar = ("ratio of writing", bars.RATIO_OF_WRITING) if call == "write_file" else ("ratio", bars.RATIO)
+            of_files = call in READ_BY + WRITTEN
+            name, bar = ("ratio of files", bars.RATIO_OF_FILES) if of_files else ("ratio", bars.RATIO)
             yield name, f"{MEASURED[call]}, {table}", partial(by_ratio, table, call, bar), ()
             yield "stack", f"{MEASURED[call]}, {table}", partial(by_stack, table, call), ()
         for call in (READ, READ_UNCOUNTED):
             bar = bars.READ_BEFORE_COUNTS[table] + bars.MORE_FOR_COUNTS
-            yield "counts", f"{MEASURED[call]}, {table}", partial(by_count, table, call, bar), ()
+            yield "counts", f"{MEASURED[call]}, {table}", partial(by_count, table, call, bar), ("note",)
+        for call in READ_BY:
+            bar = bars.READ_BEFORE_NOTE[table][call == READ_UNCOUNTED] + bars.MORE_FOR_NOTE
+            yield "note", f"{MEASURED[call]}, {table}", partial(by_count, table, call, bar), ()
         if BEYOND in counted_on(table):
             yield "ratio", f"{BEYOND}, {table}", partial(by_ratio, table, BEYOND, bars.RATIO), ()
             yield "beyond", table, partial(by_count, table, BEYOND, bars.READING_BEYOND_CHECK), ()
@@ -69,9 +76,9 @@ def pushes() -> Iterator[Push]:
             ("unrefined", UNREFINED, "table_cause", bars.CHECK_UNREFINED),
             *(("reading", LARGEST, call, bars.READING) for call in READINGS),
             ("insertion", LARGEST, "insert", bars.INSERTION),
-            *(("file reading", LARGEST_FILE, call, bars.FILE_READING) for call in (READ, READ_UNCOUNTED)),
-            ("file writing", LARGEST_FILE, "write_file", bars.FILE_WRITING)):
-        lower = ("counts",) if name == "file reading" else ()
+            *(("file reading", LARGEST_FILE, call, bars.FILE_READING) for call in READ_BY),
+            *(("file writing", LARGEST_FILE, call, bars.FILE_WRITING) for call in WRITTEN)):
+        lower = () if call not in READ_BY else ("counts", "note") if call in (READ, READ_UNCOUNTED) else ("note",)
         yield name, f"{MEASURED[call]}, {table}", partial(by_count, table, call, bar), lower
     yield "corners", LARGEST_FILE, by_corners, ()
 

@@ -26,11 +26,19 @@ from surface import total_places
 # The calls by their names without kiln_, as bench.c has them.
 READINGS = {"exact": "Exact reading", "watts": "Reading as f64", "display": "Display", "cost": "Cost"}
 CALLS = {"table_cause": "Table check", "least_level": "Least level", "activity": "Activity", "fresh": "Fresh table",
-         "set": "Set", "insert": "Insertion", **READINGS, "read_file": "File reading", "write_file": "File writing"}
-# What is measured: each call, and file reading of the file without counts too.
-READ, READ_UNCOUNTED = "read_file", "read_uncounted"
-MEASURED = {**CALLS, READ_UNCOUNTED: "File reading, without counts"}
-OF_FILES = (READ, READ_UNCOUNTED, "write_file")
+         "set": "Set", "insert": "Insertion", **READINGS, "read_file": "File reading", "read_bench": "Bench reading",
+         "write_file": "File writing"}
+# What is measured: each call, those of files with counts and no note; file reading without counts too, and reading by
+# both loaders and writing with a note.
+READ, READ_UNCOUNTED, READ_NOTED = "read_file", "read_uncounted", "read_noted"
+BENCH, BENCH_NOTED = "read_bench", "bench_noted"
+WRITE, WRITE_NOTED = "write_file", "write_noted"
+LOADS, WRITES = (READ, READ_UNCOUNTED, READ_NOTED, BENCH, BENCH_NOTED), (WRITE, WRITE_NOTED)
+MEASURED = {**CALLS, READ_UNCOUNTED: "File reading, without counts", READ_NOTED: "File reading, with a note",
+            BENCH_NOTED: "Bench reading, with a note", WRITE_NOTED: "File writing, with a note"}
+OF_FILES = LOADS + WRITES
+# The longest note.
+NOTE = bytes(range(64, 128))
 BEYOND = "Exact reading beyond the table check"
 SIZES, TURNS = (1, 4, 8), 3
 LARGEST, UNREFINED, LARGEST_FILE = "8 by 8, fully split", "8 by 8, unrefined", "8 by 8, all of level 3"
@@ -89,12 +97,13 @@ def counted_on(table: str) -> Tuple[str, ...]:
 
 def file_of(t: samples.Table, call: str) -> bytes:
     """The file that a call of files reads or writes."""
-    return tablefile.write_file(*t, counted=call != READ_UNCOUNTED)
+    noted = call in (READ_NOTED, BENCH_NOTED, WRITE_NOTED)
+    return tablefile.write_file(*t, counted=call != READ_UNCOUNTED, note=NOTE if noted else None)
 
 
 def told(t: samples.Table) -> str:
-    """A table and its files, with counts and without, as the program reads them."""
-    files = [file_of(t, call) for call in (READ, READ_UNCOUNTED)]
+    """A table, its files, with counts, without, and with counts and a note, and the note, as the program reads them."""
+    files = [*(file_of(t, call) for call in (READ, READ_UNCOUNTED, READ_NOTED)), NOTE]
     return " ".join(map(str, [t.w, t.h, len(t.tree), *t.tree, len(t.coefficients), *t.coefficients,
                               *(part for file in files for part in (len(file), *file))]))
 

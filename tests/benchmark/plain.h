@@ -35,7 +35,11 @@ uint8_t CALL(cost)(size_t w, size_t h, const uint8_t *tree, size_t tree_len, con
                    size_t numbers_len, size_t u, size_t v, size_t tariff, size_t *cost);
 uint8_t CALL(read_file)(const uint8_t *file, size_t file_len, uint8_t *tree_out, size_t tree_out_len,
                         int64_t *numbers_out, size_t numbers_out_len, size_t *length, size_t *w, size_t *h);
+uint8_t CALL(read_bench)(const uint8_t *file, size_t file_len, uint8_t *tree_out, size_t tree_out_len,
+                         int64_t *numbers_out, size_t numbers_out_len, size_t *length, size_t *w, size_t *h,
+                         uint8_t *noted, size_t *note_offset, size_t *note_length);
 uint8_t CALL(write_file)(size_t w, size_t h, const uint8_t *tree, size_t tree_len, const int64_t *numbers,
-                         size_t numbers_len, uint8_t *file_out, size_t file_out_len, size_t *length);
+                         size_t numbers_len, uint8_t noted, const uint8_t *note, size_t note_len, uint8_t *file_out,
+                         size_t file_out_len, size_t *length);
 
 #endif

@@ -9,6 +9,12 @@ struct file {
   size_t len;
 };
 
+/* The part of a file that its note is; all 0 where none stands there. */
+struct note {
+  uint8_t stands;
+  size_t offset, length;
+};
+
 /* The length in the head that stands at a position. */
 static inline size_t length_at(const uint8_t *head) {
   return (size_t)head[1] << 8 | head[2];
@@ -79,12 +85,25 @@ static uint8_t judge_level(const struct file *file, size_t at, size_t count, siz
   return 0;
 }
 
-/* All fields in byte order: the regions, and the positions after the tree's field, of the first level's and after the
-   last. The active functions are counted once, for the counts' field and for the levels' lengths. */
+/* The note's field, which may stand after the last level's, and the end of the file after it: any byte that is not a
+   note's is one too many. */
+static uint8_t judge_note(const struct file *file, size_t at, struct note *note) {
+  size_t end = at;
+  *note = (struct note){0, 0, 0};
+  if (at < file->len && file->bytes[at] == TAG_NOTE) {
+    uint8_t cause = field_at(file, at, TAG_NOTE, 0, NOTE_MAX, &end);
+    if (cause) return cause;
+    *note = (struct note){1, at + HEAD, end - at - HEAD};
+  }
+  return end < file->len ? BYTES_AFTER : 0;
+}
+
+/* All fields in byte order: the regions, the positions after the tree's field and of the first level's, and the note.
+   The active functions are counted once, for the counts' field and for the levels' lengths. */
 static uint8_t judge(const struct file *file, struct regions *regions, size_t *tree_end, size_t *levels_at,
-                     size_t *last) {
-  size_t counts[LEVELS];
-  uint8_t cause = field_at(file, 0, TAG_SIDES, SIDES_BYTES, SIDES_BYTES, last);
+                     struct note *note) {
+  size_t counts[LEVELS], last;
+  uint8_t cause = field_at(file, 0, TAG_SIDES, SIDES_BYTES, SIDES_BYTES, &last);
   if (cause) return cause;
   size_t w = file->bytes[HEAD], h = file->bytes[HEAD + 1];
   if (!good_sides(w, h)) return BAD_SIDE;
@@ -92,10 +111,10 @@ static uint8_t judge(const struct file *file, struct regions *regions, size_t *t
   if ((cause = region_cause(w, h, file->bytes + TREE_BODY, *tree_end - TREE_BODY, regions))) return cause;
   count_active(regions, w, h, counts);
   if ((cause = judge_counts(file, *tree_end, counts, levels_at))) return cause;
-  *last = *levels_at;
+  last = *levels_at;
   for (size_t level = 0; level < LEVELS; level++)
-    if ((cause = judge_level(file, *last, counts[level], level, last))) return cause;
-  return 0;
+    if ((cause = judge_level(file, last, counts[level], level, &last))) return cause;
+  return judge_note(file, last, note);
 }
 
 /* The body's next number for a marked function, 0 for another. */
@@ -128,25 +147,51 @@ static void load_level(const uint8_t *body, size_t len, const struct regions *re
     body = load_row(body, active_row(regions, w, h, level, b), eighths(level), n, out);
 }
 
-uint8_t plain_read_file(const uint8_t *bytes, size_t len, uint8_t *tree_out, size_t tree_out_len, int64_t *numbers_out,
-                        size_t numbers_out_len, size_t *length, size_t *w, size_t *h) {
-  struct file file = {bytes, len};
+/* The coefficients of all levels, whose fields start at a position. */
+static void load_levels(const uint8_t *field, const struct regions *regions, size_t w, size_t h, int64_t *out) {
+  for (size_t level = 0; level < LEVELS; level++) {
+    size_t body = length_at(field);
+    load_level(field + HEAD, body, regions, w, h, level, out);
+    field += HEAD + body;
+    out += places(w, h, level);
+  }
+}
+
+/* Loads a file into the outputs, with the note that it has; a refusal writes nothing but `note`. */
+static uint8_t load(const struct file *file, uint8_t *tree_out, size_t tree_out_len, int64_t *numbers_out,
+                    size_t numbers_out_len, size_t *length, size_t *w, size_t *h, struct note *note) {
   struct regions regions;
-  size_t tree_end, levels_at, last;
-  uint8_t cause = judge(&file, &regions, &tree_end, &levels_at, &last);
+  const uint8_t *bytes = file->bytes;
+  size_t tree_end, levels_at;
+  uint8_t cause = judge(file, &regions, &tree_end, &levels_at, note);
   if (cause) return cause;
   size_t wide = bytes[HEAD], high = bytes[HEAD + 1], n = tree_end - TREE_BODY;
-  if (last < len) return BYTES_AFTER;
   if (numbers_out_len != start(wide, high, LEVELS)) return BAD_OUTPUT;
   if (tree_out_len < n) return TREE_OUTPUT_SHORT;
   memcpy(tree_out, bytes + TREE_BODY, n);
-  for (size_t level = 0, at = levels_at; level < LEVELS; level++) {
-    size_t body = length_at(bytes + at);
-    load_level(bytes + at + HEAD, body, &regions, wide, high, level, numbers_out + start(wide, high, level));
-    at += HEAD + body;
-  }
+  load_levels(bytes + levels_at, &regions, wide, high, numbers_out);
   *length = n;
   *w = wide;
   *h = high;
+  return 0;
+}
+
+uint8_t plain_read_file(const uint8_t *bytes, size_t len, uint8_t *tree_out, size_t tree_out_len, int64_t *numbers_out,
+                        size_t numbers_out_len, size_t *length, size_t *w, size_t *h) {
+  struct file file = {bytes, len};
+  struct note note;
+  return load(&file, tree_out, tree_out_len, numbers_out, numbers_out_len, length, w, h, &note);
+}
+
+uint8_t plain_read_bench(const uint8_t *bytes, size_t len, uint8_t *tree_out, size_t tree_out_len, int64_t *numbers_out,
+                         size_t numbers_out_len, size_t *length, size_t *w, size_t *h, uint8_t *noted,
+                         size_t *note_offset, size_t *note_length) {
+  struct file file = {bytes, len};
+  struct note note;
+  uint8_t cause = load(&file, tree_out, tree_out_len, numbers_out, numbers_out_len, length, w, h, &note);
+  if (cause) return cause;
+  *noted = note.stands;
+  *note_offset = note.offset;
+  *note_length = note.length;
   return 0;
 }

@@ -18,8 +18,8 @@ enum {
 enum { LEVELS = 4, QUARTERS = 32, LEAF_MAX = 3, SPLIT = 4, TREE_MAX = 1365 };
 
 /* A file's field: a head of a tag and a two-byte length, then its body. */
-enum { HEAD = 3, TAG_SIDES = 1, TAG_TREE, TAG_COUNTS, TAG_LEVEL_0 = 16 };
-enum { SIDES_BYTES = 2, COUNTS_BYTES = 8, NUMBER_BYTES = 5 };
+enum { HEAD = 3, TAG_SIDES = 1, TAG_TREE, TAG_COUNTS, TAG_LEVEL_0 = 16, TAG_NOTE = 32 };
+enum { SIDES_BYTES = 2, COUNTS_BYTES = 8, NUMBER_BYTES = 5, NOTE_MAX = 64 };
 
 /* The regions of levels 1 to 3: bit q of row[l][r] is set where quarter square (q, r) has level l + 1 or more. */
 struct regions {

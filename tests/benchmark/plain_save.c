@@ -1,5 +1,5 @@
-/* File writing in plain C: the table is checked, the file's length is found from the active counts, then the fields are
-   written one after another, the counts among them. */
+/* File writing in plain C: the table and the note are checked, the file's length is found from the active counts, then
+   the fields are written one after another, the counts among them and the note last. */
 #include "plain_inside.h"
 
 /* Writes a field's head, and returns the position after it. */
@@ -50,13 +50,16 @@ static uint8_t *save_level(const int64_t *numbers, const struct regions *regions
 }
 
 uint8_t plain_write_file(size_t w, size_t h, const uint8_t *tree, size_t tree_len, const int64_t *numbers,
-                         size_t numbers_len, uint8_t *file_out, size_t file_out_len, size_t *length) {
+                         size_t numbers_len, uint8_t noted, const uint8_t *note, size_t note_len, uint8_t *file_out,
+                         size_t file_out_len, size_t *length) {
   struct regions regions;
   uint8_t cause = check(w, h, tree, tree_len, numbers, numbers_len, &regions), *to = file_out;
   if (cause) return cause;
+  if (noted && note_len > NOTE_MAX) return BAD_FIELD;
   size_t counts[LEVELS], whole = HEAD + SIDES_BYTES + HEAD + tree_len + HEAD + COUNTS_BYTES;
   count_active(&regions, w, h, counts);
   for (size_t level = 0; level < LEVELS; level++) whole += HEAD + NUMBER_BYTES * counts[level];
+  if (noted) whole += HEAD + note_len;
   if (file_out_len < whole) return FILE_OUTPUT_SHORT;
   to = put_head(to, TAG_SIDES, SIDES_BYTES);
   *to++ = (uint8_t)w;
@@ -68,6 +71,9 @@ uint8_t plain_write_file(size_t w, size_t h, const uint8_t *tree, size_t tree_le
     to = put_head(to, TAG_LEVEL_0 + level, NUMBER_BYTES * counts[level]);
     if (counts[level]) to = save_level(numbers + start(w, h, level), &regions, w, h, level, to);
   }
+  /* A note of no bytes may have any pointer. */
+  if (noted) to = put_head(to, TAG_NOTE, note_len);
+  if (noted && note_len) memcpy(to, note, note_len);
   *length = whole;
   return 0;
 }

@@ -35,8 +35,9 @@ def paragraphs() -> List[str]:
         "those of the day it was made, and `check_plain.py` holds the C program to the evaluator.",
         "The least level is asked over the whole sheet, the activity of level 3; one coefficient of level 0 is set; "
         "the whole sheet is raised to level 3; readings are taken at (64 W + 5, 64 H + 7), the tariff is 1,500; the "
-        "file that is read and written is the table's, read with its counts and without them, and the largest is that "
-        "of 8 by 8 with the tree 3, 22,445 bytes of coefficients. "
+        "file that is read and written is the table's, with its counts and no note; it is read without the counts too, "
+        "and read by both loaders and written with a note of 64 bytes. The largest is that of 8 by 8 with the tree 3, "
+        "22,445 bytes of coefficients. "
         "Callgrind counts each repetition of a rep instruction, so on both sides memory is filled and copied without. "
         "No call allocates.",
     ]

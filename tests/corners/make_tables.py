@@ -1,5 +1,5 @@
 """Writes the sample tables in tables/: the evaluator fits and writes them, and the compiled library refines one. Each
-is there as a file without counts, as files were at first, and as one with them.
+is there as a file without counts, as files were at first, and as one with them; two are there with a note too.
 
 Run as: python3 tests/corners/make_tables.py
 """
@@ -71,6 +71,11 @@ def counted(file: bytes) -> bytes:
     return tablefile.write_file(*tablefile.judge(file))
 
 
+def noted(file: bytes, note: bytes) -> bytes:
+    """The file with counts and a note of the table that a file holds."""
+    return tablefile.write_file(*tablefile.judge(file), note=note)
+
+
 NEAR_TOP_HEAT: Boxes = (((20, 0, 32, 16), 1), ((25, 0, 32, 16), 2), ((26, 4, 30, 12), 3))
 UNREFINED = fitted(8, 4, (), kiln)
 LIBRARY = Library(Inside(shared(), "kiln_"))
@@ -81,7 +86,15 @@ UNCOUNTED: Dict[str, bytes] = {
     "kiln-refined-near-top-heat": refined(LIBRARY, UNREFINED, NEAR_TOP_HEAT),
     "kiln-fitted-near-top-heat": fitted(8, 4, NEAR_TOP_HEAT, kiln),
 }
-TABLES: Dict[str, bytes] = {**UNCOUNTED, **{f"{name}-counted": counted(file) for name, file in UNCOUNTED.items()}}
+NOTES: Dict[str, bytes] = {
+    "bench-s-level-1": b"S, box level 1",
+    "kiln-unrefined": b"Stand 2: fitted to the firing of 12 May, not refined yet",
+}
+TABLES: Dict[str, bytes] = {
+    **UNCOUNTED,
+    **{f"{name}-counted": counted(file) for name, file in UNCOUNTED.items()},
+    **{f"{name}-noted": noted(UNCOUNTED[name], note) for name, note in NOTES.items()},
+}
 
 
 def main() -> int:

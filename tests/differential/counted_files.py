@@ -13,13 +13,15 @@ from files import both_files, read, small
 from library import Library, differ, numbers, octets
 from saving import GREATEST_FILE, file_length, write
 from surface import total_places
-from tablefile import GREATEST_UNCOUNTED, TAG_COUNTS, TAG_LEVEL_0, field, write_file
+from tablefile import GREATEST_UNCOUNTED, GREATEST_UNNOTED, TAG_COUNTS, TAG_LEVEL_0, field, write_file
 
 
 def refused(lib: Library, words: str, file: bytes, t: samples.Table, due: int) -> str:
-    """A file read into outputs that fit a table: this refusal, and nothing written."""
-    got = lib.read_file(octets(file), octets([9] * len(t.tree)), numbers([7] * len(t.coefficients)))
-    return differ(f"read_file, counts, {words}", got, ("refused", due))
+    """A file read by both loaders into outputs that fit a table: this refusal, and nothing written."""
+    found = [differ(f"{call.__name__}, {words}", call(octets(file), octets([9] * len(t.tree)),
+                                                      numbers([7] * len(t.coefficients))), ("refused", due))
+             for call in (lib.read_file, lib.read_bench)]
+    return max(found)
 
 
 def field_bytes(lib: Library) -> Iterator[str]:
@@ -31,7 +33,8 @@ def field_bytes(lib: Library) -> Iterator[str]:
             for byte in (file[at] ^ bits for bits in turned):
                 tag_due = 14 if byte == TAG_LEVEL_0 else 13
                 due = tag_due if at == start else 14 if at < start + 3 else 20
-                yield refused(lib, f"byte {at - start} is {byte}", file[:at] + bytes([byte]) + file[at + 1:], t, due)
+                other = file[:at] + bytes([byte]) + file[at + 1:]
+                yield refused(lib, f"counts, byte {at - start} is {byte}", other, t, due)
 
 
 def wrong_counts(lib: Library) -> Iterator[str]:
@@ -40,7 +43,7 @@ def wrong_counts(lib: Library) -> Iterator[str]:
     old, end = write_file(*t, counted=False), 8 + len(t.tree)
     front, rest = old[:end], old[end:]
     for words, body in wrong_bodies():
-        yield refused(lib, words, front + field(TAG_COUNTS, body) + rest, t, 20)
+        yield refused(lib, f"counts, {words}", front + field(TAG_COUNTS, body) + rest, t, 20)
     for counts in (field(TAG_COUNTS, bytes.fromhex(STRIP_BYTES)), b""):
         tree_out, numbers_out = octets([9] * len(t.tree)), numbers([7] * len(t.coefficients))
         got = lib.read_file(octets(front + counts + rest), tree_out, numbers_out)
@@ -78,7 +81,7 @@ def counts_saved(lib: Library) -> Iterator[str]:
 
 
 def long_inputs(lib: Library) -> Iterator[str]:
-    """Input of about the length that no file exceeds, and longer than any file, whole and its first 32,377 bytes: a
+    """Input of about the length that no file exceeds, and longer than any file, whole and its first 32,444 bytes: a
     small file and that with the most coefficients, with counts, without, and with a wrong count. No file is as long
     as the bound, which counts all places of all levels as active."""
     largest = samples.Table(8, 8, [3], [0] * 1_707 + [-1] * 4_489)
@@ -88,8 +91,8 @@ def long_inputs(lib: Library) -> Iterator[str]:
         wrong = file[:start + 10] + bytes([file[start + 10] ^ 1]) + file[start + 11:]
         for name, given in (("counts", file), ("no counts", old), ("a wrong count", wrong)):
             long = given + bytes(100_000 - len(given))
-            for n in (GREATEST_UNCOUNTED, GREATEST_UNCOUNTED + 1, GREATEST_FILE - 1, GREATEST_FILE, GREATEST_FILE + 1,
-                      GREATEST_FILE + 2, len(long)):
+            for n in (GREATEST_UNCOUNTED, GREATEST_UNNOTED, GREATEST_UNNOTED + 1, GREATEST_FILE - 1, GREATEST_FILE,
+                      GREATEST_FILE + 1, GREATEST_FILE + 2, len(long)):
                 due = 20 if given == wrong else 15
                 yield refused(lib, f"{name}, {len(given)} bytes and on to {n}", long[:n], t, due)
 

@@ -9,7 +9,7 @@ from typing import Callable, Iterator, List, Sequence, Tuple
 
 import insertions
 from cases import calls, quadtree, samples
-from files import both_files, small
+from files import both_files, read, small
 from library import Library, differ, numbers, octets
 from saving import GREATEST_FILE, file_length, write
 from surface import D, LEVELS, TREE_SIDE, Box, LevelMap, coefficient_limit, place_count, total_places
@@ -63,12 +63,8 @@ def insert(lib: Library, t: samples.Table, box: Box, level: int, tree_length: in
 
 
 def file_read(lib: Library, told: str, file: bytes, t: samples.Table, tree_length: int, more: int = 0) -> str:
-    """A file read into outputs as long as a table asks, the numbers' longer by some."""
-    before = room(t, tree_length, more)
-    outputs, want = (octets(before[0]), numbers(before[1])), calls.read_file(file, *before)
-    after = want.lent["tree_out"], want.lent["coefficients_out"]
-    return differ(f"read_file, {told}, {t.w} by {t.h}, into {tree_length} and {len(before[1])}",
-                  lib.read_file(octets(file), *outputs), want.answer, *zip(outputs, after))
+    """A file read by both loaders into outputs as long as a table asks, the numbers' longer by some."""
+    return read(lib, f"{told}, {t.w} by {t.h}", file, tree_length, total_places(t.w, t.h) + more)
 
 
 def boxes(lib: Library) -> Iterator[str]:

@@ -1,4 +1,5 @@
-"""Table files with counts and without, whole and damaged at every kind of place, held to the unrelated evaluator."""
+"""Table files with counts and a note and without, whole and damaged at every kind of place, read by both loaders and
+held to the unrelated evaluator."""
 from __future__ import annotations
 
 from itertools import accumulate
@@ -6,35 +7,46 @@ from random import Random
 from typing import Callable, Dict, Iterator, List, Optional, Sequence, Tuple
 
 import cases
+import notes
 import tablefile
 from cases import calls, quadtree, samples
 from counts import IN_COUNTS, Field
 from library import Library, differ, numbers, octets
+from notes import IN_NOTES, other_tail
 from saving import drawn
 from surface import coefficient_limit, total_places
-from tablefile import COEFFICIENT_BYTES, HEAD, TAG_LEVEL_0, TAG_SIDES, TAG_TREE, coefficient_bytes, field, write_file
+from tablefile import COEFFICIENT_BYTES, HEAD, TAG_LEVEL_0, TAG_NOTE, TAG_SIDES, TAG_TREE, Note
+from tablefile import coefficient_bytes, field, write_file
 
 SIDES = (0, 9, 255, 1, 8)
 # The least and the greatest number of five bytes.
 FIVE_BYTES = (-(2**39), 2**39 - 1)
 
 
-def read(lib: Library, words: str, file: bytes, tree_length: int, numbers_length: int) -> str:
-    """Reads a file into outputs of these lengths: what is not as it should be."""
+def loads(lib: Library, words: str, file: bytes, tree_length: int, numbers_length: int) -> Iterator[str]:
+    """Reads a file by the controller's loader and by the bench loader into outputs of these lengths: of each, what is
+    not as it should be."""
     tree_lent, numbers_lent = [at % 251 for at in range(tree_length)], list(range(7, 7 + numbers_length))
-    tree_out, numbers_out = octets(tree_lent), numbers(numbers_lent)
-    got = lib.read_file(octets(file), tree_out, numbers_out)
-    want = calls.read_file(file, tree_lent, numbers_lent)
-    return differ(f"read_file, {words}, into {tree_length} and {numbers_length}: {file.hex()}", got, want.answer,
-                  (tree_out, want.lent["tree_out"]), (numbers_out, want.lent["coefficients_out"]))
+    want = calls.read_bench(file, tree_lent, numbers_lent)
+    after = want.loaded.lent["tree_out"], want.loaded.lent["coefficients_out"]
+    for name, call, answer in (("read_file", lib.read_file, want.loaded.answer),
+                               ("read_bench", lib.read_bench, want.linked())):
+        outputs = octets(tree_lent), numbers(numbers_lent)
+        told = f"{name}, {words}, into {tree_length} and {numbers_length}: {file.hex()}"
+        yield differ(told, call(octets(file), *outputs), answer, *zip(outputs, after))
 
 
-def fields_of(t: samples.Table, counted: bool) -> List[Field]:
-    return [(tag, len(body), body) for tag, body in tablefile.table_fields(*t, counted)]
+def read(lib: Library, words: str, file: bytes, tree_length: int, numbers_length: int) -> str:
+    """What is not as it should be with either loader."""
+    return next(filter(None, loads(lib, words, file, tree_length, numbers_length)), "")
+
+
+def fields_of(t: samples.Table, counted: bool, note: Note = None) -> List[Field]:
+    return [(tag, len(body), body) for tag, body in tablefile.table_fields(*t, counted, note)]
 
 
 def both_files(t: samples.Table) -> Tuple[bytes, bytes]:
-    """The two files that load a table: with its counts, and without."""
+    """The two files that load a table and have no note: with its counts, and without."""
     return write_file(*t), write_file(*t, counted=False)
 
 
@@ -124,7 +136,8 @@ def cut(rng: Random, file: bytes, edges: Sequence[int]) -> bytes:
 
 def longer(rng: Random, file: bytes, _: Sequence[int]) -> bytes:
     more = rng.choice((1, 1, 2, HEAD, 200, 33_000))
-    return file + rng.choice((bytes(more), bytes([255]) * more, field(TAG_LEVEL_0 + 4, b""), file))
+    return file + rng.choice((bytes(more), bytes([255]) * more, field(TAG_LEVEL_0 + 4, b""), file,
+                              field(TAG_NOTE, bytes(more))))
 
 
 def other_byte(rng: Random, file: bytes, edges: Sequence[int]) -> bytes:
@@ -137,8 +150,10 @@ def any_bytes(rng: Random, _: bytes, __: Sequence[int]) -> bytes:
 
 
 IN_FIELDS = (other_tag, other_length, other_body, other_tree, other_regions, other_side, other_number, other_order,
-             *IN_COUNTS)
-IN_BYTES = (cut, longer, other_byte)
+             *IN_COUNTS, *IN_NOTES)
+IN_BYTES = (cut, longer, other_byte, other_tail)
+# Faults of whole fields before the note.
+BEFORE_NOTE = (other_tag, other_body, other_tree, other_regions, other_side, other_number, *IN_COUNTS)
 
 
 def damaged(rng: Random, fields: List[Field], kinds: Sequence[Callable]) -> bytes:
@@ -163,17 +178,30 @@ def lengths(rng: Random, t: samples.Table) -> Tuple[int, int]:
 
 
 def read_file(rng: Random, lib: Library) -> Iterator[str]:
-    """Files of a table, with counts or without, each with no fault, one or two, read into outputs of any lengths."""
+    """Files of a table, with counts or a note or without, each with no fault, one or two, read into outputs of any
+    lengths."""
     t = drawn(lib, cases.table(rng))
-    for _ in range(12):
-        fields = fields_of(t, rng.random() < 0.6)
+    for _ in range(6):
+        fields = fields_of(t, rng.random() < 0.6, notes.note(rng))
         kinds = rng.choices(IN_FIELDS + IN_BYTES, k=rng.choice((0, 0, 1, 1, 2)))
         kinds = [any_bytes] if rng.random() < 0.03 else kinds
         words = " and ".join(kind.__name__ for kind in kinds) or "whole"
-        yield read(lib, f"{words} of {t.w} by {t.h}", damaged(rng, fields, kinds), *lengths(rng, t))
+        yield from loads(lib, f"{words} of {t.w} by {t.h}", damaged(rng, fields, kinds), *lengths(rng, t))
 
 
-KINDS: Dict[str, Callable[[Random, Library], Iterator[str]]] = {"read_file": read_file}
+def read_bench(rng: Random, lib: Library) -> Iterator[str]:
+    """Files that differ only in the note, its presence included: whole, and with a fault before it."""
+    t = drawn(lib, cases.table(rng))
+    for _ in range(2):
+        fields, room = fields_of(t, rng.random() < 0.6), lengths(rng, t)
+        kinds = rng.choices(BEFORE_NOTE, k=rng.choice((0, 0, 1)))
+        front, words = damaged(rng, fields, kinds), " and ".join(kind.__name__ for kind in kinds) or "whole"
+        for note in (None, notes.note(rng) or b"", notes.note(rng) or bytes(64)):
+            tail = b"" if note is None else field(TAG_NOTE, note)
+            yield from loads(lib, f"{words} of {t.w} by {t.h}, note {note}", front + tail, *room)
+
+
+KINDS: Dict[str, Callable[[Random, Library], Iterator[str]]] = {"read_file": read_file, "read_bench": read_bench}
 
 
 def small() -> samples.Table:
@@ -185,28 +213,35 @@ def small() -> samples.Table:
 
 
 def small_file(lib: Library) -> List[str]:
-    """A small file cut everywhere, with each byte changed to some others, and with bytes after it."""
+    """A small file, with a note or none, cut everywhere, with each byte changed to some others, and with bytes after
+    it."""
     t, found = small(), []
     room = len(t.tree) + 3, 211
-    for file in both_files(t):
-        found += [read(lib, f"cut to {at}", file[:at], *room) for at in range(len(file) + 1)]
-        for at, byte in enumerate(file):
+    noted = write_file(*t, note=field(19, b"") + field(TAG_NOTE, b"\7")), write_file(*t, counted=False, note=b"")
+    # A file with a note is the same up to the last field of a level.
+    starts = [(file, 0) for file in both_files(t)] + [(file, tablefile.levels_end(file) - HEAD) for file in noted]
+    for file, start in starts:
+        found += [read(lib, f"cut to {at}", file[:at], *room) for at in range(start, len(file) + 1)]
+        for at, byte in enumerate(file[start:], start):
             others = {0, 1, 2, 3, 4, 8, 9, 127, 128, 255, (byte + 1) % 256, (byte - 1) % 256, byte ^ 128} - {byte}
             found += [read(lib, f"byte {at} is {other}", file[:at] + bytes([other]) + file[at + 1:], *room)
                       for other in sorted(others)]
-        tails = [bytes(1), b"\xff", bytes(2), bytes(3), field(20, b""), field(1, b"\1\1"), file, bytes(70_000)]
+        tails = [bytes(1), b"\xff", bytes(2), bytes(3), field(20, b""), field(1, b"\1\1"), file, bytes(70_000),
+                 field(TAG_NOTE, b""), field(TAG_NOTE, bytes(64)), field(TAG_NOTE, bytes(65)), b"\x20", b"\x20\0"]
         found += [read(lib, f"{len(tail)} bytes after it", file + tail, *room) for tail in tails]
     return found
 
 
 def outputs(lib: Library) -> List[str]:
-    """A small file and the largest read into outputs of all lengths near those due, with and without bytes after."""
+    """A small file and the largest read into outputs of all lengths near those due, with and without a note and bytes
+    after."""
     big = samples.Table(8, 8, [3], [0] * 1_707 + [(-1)**at * (64**3 * 32_000 - at) for at in range(4_489)])
     found = []
     for t in (small(), big):
         n, places = len(t.tree), len(t.coefficients)
+        tails = b"", b"\0", field(TAG_NOTE, b"\7" * 64), field(TAG_NOTE, b"") + b"\0"
         found += [read(lib, f"outputs, {t.w} by {t.h}", file + tail, room, slots) for file in both_files(t)
-                  for tail in (b"", b"\0") for room in (0, n - 1, n, n + 1, quadtree.GREATEST_TREE)
+                  for tail in tails for room in (0, n - 1, n, n + 1, quadtree.GREATEST_TREE)
                   for slots in (0, places - 1, places, places + 1)]
     return found
 
@@ -232,8 +267,9 @@ def two_faults(lib: Library) -> List[str]:
     )
     found = []
     for words, file, due in checks:
-        got = lib.read_file(octets(file), octets([]), numbers([7] * 210))
-        found.append(differ(f"read_file, {words}", got, ("refused", due)))
+        for call in (lib.read_file, lib.read_bench):
+            got = call(octets(file), octets([]), numbers([7] * 210))
+            found.append(differ(f"{call.__name__}, {words}", got, ("refused", due)))
     return found
 
 
@@ -244,7 +280,7 @@ def sheets(rng: Random, lib: Library) -> List[str]:
         for h in range(1, 9):
             t = cases.table_on(rng, w, h)
             room = len(t.tree), total_places(w, h)
-            for fields in (fields_of(t, True), fields_of(t, False)):
+            for fields in (fields_of(t, True), fields_of(t, False), fields_of(t, True, notes.body(rng, 64))):
                 found.append(read(lib, f"whole of {w} by {h}", joined(fields), *room))
                 found += [read(lib, f"{kind.__name__} of {w} by {h}", damaged(rng, fields, [kind]), *room)
                           for kind in IN_FIELDS + IN_BYTES]

@@ -11,6 +11,7 @@ import counted_files
 import edges
 import files
 import insertions
+import noted_files
 import saving
 from cases import samples
 from library import Library, differ, numbers, octets
@@ -259,6 +260,7 @@ def faults(lib: Library, seed: int, grids: bool) -> List[str]:
     found += two_faults_of_tables(lib) + two_faults_of_calls(lib)
     if grids:
         found += whole_grids(Random(seed), lib)
-    found += edges.fixed(Random(seed), lib) + files.fixed(Random(seed), lib) + counted_files.fixed(Random(seed), lib)
+    for part in (edges, files, counted_files, noted_files):
+        found += part.fixed(Random(seed), lib)
     found += saving.again(lib)
     return [fault for fault in found if fault]

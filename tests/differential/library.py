@@ -16,7 +16,7 @@ Held = Tuple[int, int, bytes, bytes]
 GUARD = 64
 EDGE = b"\x5A" * GUARD
 # What a scalar holds before a call: every byte is set, and no call gives that value.
-LEVEL_BEFORE = 0xEE
+LEVEL_BEFORE, NOTED_BEFORE = 0xEE, 0xED
 SIZE_BEFORE = 0xE1E2_E3E4_E5E6_E7E8
 NUMBER_BEFORE = SIZE_BEFORE - 2**64
 # Below zero, no number, with a payload, and signalling: arithmetic on it or another "no number" in its place is seen.
@@ -108,6 +108,10 @@ class Float(Scalar):
 
 def size(x: int) -> ctypes.c_size_t:
     return ctypes.c_size_t(x & MASK)
+
+
+def octet(x: int) -> ctypes.c_uint8:
+    return ctypes.c_uint8(x)
 
 
 def number(x: int) -> ctypes.c_int64:
@@ -252,14 +256,27 @@ class Library:
     def cost(self, w: int, h: int, tree: Lent, values: Lent, u: int, v: int, tariff: int) -> Answer:
         return self._taken("cost", w, h, tree, values, size(u), size(v), size(tariff), Scalar("Q", SIZE_BEFORE))
 
-    def read_file(self, file: Lent, tree_out: Lent, numbers_out: Lent) -> Answer:
-        """The scalars receive the tree's length and the sides."""
-        got = self._call("read_file", file, tree_out, numbers_out, *(Scalar("Q", SIZE_BEFORE) for _ in range(3)))
+    def _loaded(self, got: Answer, file: Lent, tree_out: Lent, numbers_out: Lent) -> Answer:
+        """A call that loaded a file where it was accepted; its first scalars then have the tree's length and the
+        sides."""
         if not got.cause and self.seen is not None:
-            length, w, h = got.said()[1:]
+            length, w, h = got.said()[1:4]
             self.seen.files[file.given] = w, h, tree_out.contents()[:length], numbers_out.contents()
         return got
 
-    def write_file(self, w: int, h: int, tree: Lent, values: Lent, file_out: Lent) -> Answer:
-        """The scalar receives the file's length."""
-        return self._taken("write_file", w, h, tree, values, file_out, Scalar("Q", SIZE_BEFORE))
+    def read_file(self, file: Lent, tree_out: Lent, numbers_out: Lent) -> Answer:
+        """The scalars receive the tree's length and the sides."""
+        got = self._call("read_file", file, tree_out, numbers_out, *(Scalar("Q", SIZE_BEFORE) for _ in range(3)))
+        return self._loaded(got, file, tree_out, numbers_out)
+
+    def read_bench(self, file: Lent, tree_out: Lent, numbers_out: Lent) -> Answer:
+        """The scalars receive the tree's length, the sides, whether a note stands there, and its place and length."""
+        sizes = [Scalar("Q", SIZE_BEFORE) for _ in range(5)]
+        got = self._call("read_bench", file, tree_out, numbers_out, *sizes[:3], Scalar("B", NOTED_BEFORE), *sizes[3:])
+        return self._loaded(got, file, tree_out, numbers_out)
+
+    def write_file(self, w: int, h: int, tree: Lent, values: Lent, file_out: Lent, noted: int = 0,
+                   note: Optional[Lent] = None) -> Answer:
+        """Where noted is 0 the note is none, whatever is lent in its place. The scalar receives the file's length."""
+        return self._taken("write_file", w, h, tree, values, octet(noted), octets([]) if note is None else note,
+                           file_out, Scalar("Q", SIZE_BEFORE))

@@ -35,6 +35,9 @@ static void *unknown(unsigned k) {
 #define OUT(k) unknown(k), given[k].count
 #define ONE(k) unknown(k)
 
+/* The note that is lent after a number which is 0 for none: what lies there is then unknown too. */
+#define NOTE(k) (uint8_t)N(k), (N(k) ? given[(k) + 1].at : unknown((k) + 1)), given[(k) + 1].count
+
 static uint8_t make(const char *name) {
 #define IS(call) (strcmp(name, #call) == 0)
   if (IS(table_cause)) return kiln_table_cause(N(0), N(1), B(2), Q(3));
@@ -50,7 +53,10 @@ static uint8_t make(const char *name) {
   if (IS(display)) return kiln_display(N(0), N(1), B(2), Q(3), N(4), N(5), ONE(6));
   if (IS(cost)) return kiln_cost(N(0), N(1), B(2), Q(3), N(4), N(5), N(6), ONE(7));
   if (IS(read_file)) return kiln_read_file(B(0), OUT(1), OUT(2), ONE(3), ONE(4), ONE(5));
-  if (IS(write_file)) return kiln_write_file(N(0), N(1), B(2), Q(3), OUT(4), ONE(5));
+  if (IS(read_bench)) {
+    return kiln_read_bench(B(0), OUT(1), OUT(2), ONE(3), ONE(4), ONE(5), ONE(6), ONE(7), ONE(8));
+  }
+  if (IS(write_file)) return kiln_write_file(N(0), N(1), B(2), Q(3), NOTE(4), OUT(6), ONE(7));
   exit(3);
 }
 

@@ -24,6 +24,7 @@ from surface import (
     side_allowed,
     total_places,
 )
+from tablefile import GREATEST_NOTE, NO_PART, Note, NotePart
 
 GREATEST_TARIFF = 99_999
 FLOAT_BOUND = Fraction(1, 2**30)
@@ -36,6 +37,18 @@ class Outcome(NamedTuple):
 
     answer: Answer
     lent: Dict[str, List[int]]
+
+
+class Benched(NamedTuple):
+    """What the bench loader gives: the controller's answer and buffers, and the note as a part of the file."""
+
+    loaded: Outcome
+    note: NotePart
+
+    def linked(self) -> Answer:
+        """The answer of the linked call, which gives all of it in one and says nothing of a note where it refuses."""
+        answer = self.loaded.answer
+        return answer if answer[0] == "refused" else (*answer, int(self.note.stands), *self.note[1:])
 
 
 def refused(number: int) -> Answer:
@@ -289,30 +302,43 @@ def cost(w: int, h: int, tree: Sequence[int], coefficients: Sequence[int], u: in
 
 
 # Document 01, The table file: 'Reading fills a tree buffer and a coefficient slice.'; byte order, in which 20 has its
-# place (Document 02, Seven), then 15, 16, 17. Answer ('ok', tree length, W, H); lent file, tree_out and
-# coefficients_out.
-def read_file(file: Sequence[int], tree_out: Sequence[int], coefficients_out: Sequence[int]) -> Outcome:
+# place (Document 02, Seven), and the note (Eight), then 15, 16, 17. Answer ('ok', tree length, W, H); lent file,
+# tree_out and coefficients_out. Eight: 'The bench loader also says whether a note stands there and returns the note as
+# the part of the file it is; with none there, or a refused call, it says none and the part is empty.'
+def read_bench(file: Sequence[int], tree_out: Sequence[int], coefficients_out: Sequence[int]) -> Benched:
     lent = {"file": file, "tree_out": tree_out, "coefficients_out": coefficients_out}
-    content = tablefile.judge(file)
-    if isinstance(content, int):
-        return _after(refused(content), **lent)
+    judged = tablefile.judge_noted(file)
+    if isinstance(judged, int):
+        return Benched(_after(refused(judged), **lent), NO_PART)
+    content, note = judged
     cause = _outputs_refused(content.w, content.h, content.tree, tree_out, len(coefficients_out))
     if cause is not None:
-        return _after(refused(cause), **lent)
+        return Benched(_after(refused(cause), **lent), NO_PART)
     lent["tree_out"] = _written(tree_out, content.tree)
     lent["coefficients_out"] = content.coefficients
-    return _after(("ok", len(content.tree), content.w, content.h), **lent)
+    return Benched(_after(("ok", len(content.tree), content.w, content.h), **lent), note)
 
 
-# Document 02, One: 'Add the writer for document 01's file', 'Tables are checked as elsewhere'; 1 to 5, then 18, 'file
-# output shorter than the file, judged last'. Seven: 'Size needs ... include the field'. Answer ('ok', file length);
-# lent tree, coefficients and file_out.
-def write_file(w: int, h: int, tree: Sequence[int], coefficients: Sequence[int], file_out: Sequence[int]) -> Outcome:
+# Document 02, Eight: 'The controller's loader passes over it.'
+def read_file(file: Sequence[int], tree_out: Sequence[int], coefficients_out: Sequence[int]) -> Outcome:
+    return read_bench(file, tree_out, coefficients_out).loaded
+
+
+# Document 02, One: 'Add the writer for document 01's file', 'Tables are checked as elsewhere'; 1 to 5, then Eight: 'a
+# lent note above 64 bytes gives 14', then 18, 'file output shorter than the file, judged last'. Seven: 'Size needs ...
+# include the field'. Answer ('ok', file length); lent tree, coefficients and file_out, and the note where there is one.
+def write_file(
+    w: int, h: int, tree: Sequence[int], coefficients: Sequence[int], file_out: Sequence[int], note: Note = None
+) -> Outcome:
     lent = {"tree": tree, "coefficients": coefficients, "file_out": file_out}
+    if note is not None:
+        lent["note"] = note
     cause = judge_table(w, h, tree, coefficients)
     if cause is not None:
         return _after(refused(cause), **lent)
-    file = tablefile.write_file(w, h, tree, coefficients)
+    if note is not None and len(note) > GREATEST_NOTE:
+        return _after(refused(14), **lent)
+    file = tablefile.write_file(w, h, tree, coefficients, note=note)
     if len(file_out) < len(file):
         return _after(refused(18), **lent)
     lent["file_out"] = _written(file_out, file)

@@ -13,6 +13,9 @@ from typing import Callable, List, Sequence, Tuple
 
 import calls
 import file_cases
+import note_cases
+import note_misreadings
+import note_properties
 import properties
 import samples
 import saved_files
@@ -150,7 +153,7 @@ def refusals(check: Check) -> None:
         cases.append((number, calls.display(*table, -1, 999)))
         cases.append((number, calls.cost(*table, -1, 999, -1)))
         # 18 is 'judged last': with an output that is too short too, and with one that no file is longer than.
-        cases += [(number, calls.write_file(*table, [8] * n)) for n in (0, 99, 32_365, tablefile.GREATEST_FILE)]
+        cases += [(number, calls.write_file(*table, [8] * n)) for n in (0, 99, 32_376, tablefile.GREATEST_FILE)]
         if number <= 2:
             cases.append((number, calls.activity(*table[:3], 4, [])))
             cases.append((number, calls.least_level(*table[:3], (1, 1, 1, 1))))
@@ -239,7 +242,8 @@ def saving(check: Check) -> None:
             over = calls.write_file(table.w, table.h, table.tree, kept["coefficients"], short)
             check(over == (("refused", 4), kept), "4 and not 18 for the file of %s" % name)
     longest = 5 + (3 + quadtree.GREATEST_TREE) + 4 * 3 + 5 * total_places(8, 8)
-    check((tablefile.GREATEST_UNCOUNTED, tablefile.GREATEST_FILE) == (longest, longest + 11), "no file is longer")
+    unnoted = tablefile.GREATEST_UNCOUNTED, tablefile.GREATEST_UNNOTED
+    check(unnoted == (longest, longest + 11), "no file without a note is longer")
 
 
 # Document 01, Bench sheet: what the corner program prints.
@@ -254,6 +258,9 @@ def corners(check: Check) -> None:
         check(calls.corner_lines(file) == lines, "corner program on S")
         check(calls.corner_lines(refined) == lines, "corner program on S refined")
         check(calls.corner_lines(wide) == wide_lines, "corner program on 2 by 1")
+        for note in (b"", b"note", bytes(64)):
+            noted = tablefile.write_file(*fine, counted=counted, note=note)
+            check(calls.corner_lines(noted) == lines, "corner program on S refined, with a note of %d" % len(note))
         check(calls.corner_lines(file + b"\0" * 9) == ["refused 15"], "corner program, 15")
     other = tablefile.write_file(*bench_s()).replace(bytes.fromhex("030008 0010"), bytes.fromhex("030008 0011"))
     check(calls.corner_lines(other) == ["refused 20"], "corner program on a count of 17")
@@ -298,6 +305,8 @@ GROUPS = [
     ("table files", file_cases.files),
     ("counts in a file", file_cases.counts),
     ("counts and other causes", file_cases.counts_in_order),
+    ("notes in a file", note_cases.reading),
+    ("saving with a note", note_cases.saving),
     ("saving a table", saving),
     ("splines", properties.splines),
     ("region trees", properties.trees),
@@ -311,9 +320,14 @@ GROUPS = [
     ("saving what was loaded", properties.saving_again),
     ("files of one table", saved_files.files_of_a_table),
     ("fields of counts", saved_files.counts_bits),
+    ("files that differ in the note", note_properties.passed_over),
+    ("saving and loading with a note", note_properties.saved_again),
+    ("fields of notes", note_properties.note_bits),
     ("misreadings on the bench sheet", bench_misreadings),
     ("misreadings on the properties", properties.misreadings),
     ("misreadings of saving", saved_files.saving_misreadings),
+    ("misreadings of a note that is read", note_misreadings.loading_misreadings),
+    ("misreadings of a note that is saved", note_misreadings.writing_misreadings),
 ]
 
 

@@ -1,6 +1,7 @@
 """The table file of documents 01 and 02: the file of a table, and the judging of a file in byte order.
 
-Since document 02's request Seven a file may have a field of counts after the tree, and a file that is written has it.
+Since document 02's request Seven a file may have a field of counts after the tree, and a file that is written has it;
+since Eight it may end with a note.
 """
 from __future__ import annotations
 
@@ -13,15 +14,22 @@ TAG_SIDES = 1
 TAG_TREE = 2
 TAG_COUNTS = 3
 TAG_LEVEL_0 = 16
+TAG_NOTE = 32
 HEAD = 3
 SIDES_BYTES = 2
 COUNT_BYTES = 2
 COUNTS_BYTES = 8
 COEFFICIENT_BYTES = 5
-# No file is longer, with its counts and without: 5 bytes for the sides, 1,368 for the tree, 11 for the counts, four
-# heads of 3, and 5 for each of 6,196 coefficients.
-GREATEST_FILE = 32_376
+# Document 02, Eight: 'a note of 0 to 64 bytes'.
+GREATEST_NOTE = 64
+# No file is longer: 5 bytes for the sides, 1,368 for the tree, 11 for the counts, four heads of 3, 5 for each of 6,196
+# coefficients, and 67 for the note. Nor is one without a note, or without a note and counts.
+GREATEST_FILE = 32_443
+GREATEST_UNNOTED = 32_376
 GREATEST_UNCOUNTED = 32_365
+
+# Document 02, Eight: 'a note or none'. A note of no bytes is not none.
+Note = Optional[Sequence[int]]
 
 
 class Content(NamedTuple):
@@ -31,6 +39,18 @@ class Content(NamedTuple):
     h: int
     tree: List[int]
     coefficients: List[int]
+
+
+class NotePart(NamedTuple):
+    """Document 02, Eight: 'whether a note stands there', and 'the note as the part of the file it is'."""
+
+    stands: bool
+    offset: int
+    length: int
+
+
+# Document 02, Eight: 'it says none and the part is empty'.
+NO_PART = NotePart(False, 0, 0)
 
 
 # Document 01, The table file: 'a one-byte tag, a two-byte length (high byte first) and a body'.
@@ -59,9 +79,9 @@ def _surface(w: int, h: int, tree: Sequence[int]) -> Surface:
 
 # Document 01, The table file: the six fields 'in this order, all present', of a table that need not be acceptable
 # in its coefficients but has a tree of the given form. Document 02, Seven: 'a field of tag 3 after tag 2'; a file that
-# lacks it is one of the old rule.
+# lacks it is one of the old rule. Eight: a note, 'tag 32, last in the file, optional'.
 def table_fields(
-    w: int, h: int, tree: Sequence[int], coefficients: Sequence[int], counted: bool = True
+    w: int, h: int, tree: Sequence[int], coefficients: Sequence[int], counted: bool = True, note: Note = None
 ) -> List[Tuple[int, bytes]]:
     surface = _surface(w, h, tree)
     fields = [(TAG_SIDES, bytes([w, h])), (TAG_TREE, bytes(tree))]
@@ -70,13 +90,15 @@ def table_fields(
     for level in LEVELS:
         places = [surface.place(level, i, j) for i, j in surface.active_functions(level)]
         fields.append((TAG_LEVEL_0 + level, b"".join(coefficient_bytes(coefficients[p]) for p in places)))
-    return fields
+    return fields if note is None else fields + [(TAG_NOTE, bytes(note))]
 
 
-# Document 01, The table file: the file of a table. Document 02, Seven: 'The writer always puts it'; what the old rule
-# wrote has no counts.
-def write_file(w: int, h: int, tree: Sequence[int], coefficients: Sequence[int], counted: bool = True) -> bytes:
-    return b"".join(field(tag, body) for tag, body in table_fields(w, h, tree, coefficients, counted))
+# Document 01, The table file: the file of a table. Document 02, Seven: 'The writer always puts it', the counts; what
+# the old rule wrote has none. Eight: 'The writer takes a note or none'.
+def write_file(
+    w: int, h: int, tree: Sequence[int], coefficients: Sequence[int], counted: bool = True, note: Note = None
+) -> bytes:
+    return b"".join(field(tag, body) for tag, body in table_fields(w, h, tree, coefficients, counted, note))
 
 
 # Where tag 2's field ends, of a file that is good so far.
@@ -102,6 +124,26 @@ def with_counts(file: bytes) -> bytes:
 def without_counts(file: bytes) -> bytes:
     end = tree_end(file)
     return file[:end] + file[end + HEAD + COUNTS_BYTES :]
+
+
+# Where tag 19's field ends, of a file that is good so far: by its heads, from field to field.
+def levels_end(file: bytes) -> int:
+    at, tag = 0, 0
+    while tag != TAG_LEVEL_0 + LEVELS[-1]:
+        tag = file[at]
+        at += HEAD + int.from_bytes(file[at + 1 : at + HEAD], "big")
+    return at
+
+
+# A file that loads, without its note.
+def without_note(file: bytes) -> bytes:
+    return file[: levels_end(file)]
+
+
+# The note of a file that loads, or none.
+def note_of(file: bytes) -> Optional[bytes]:
+    end = levels_end(file)
+    return None if end == len(file) else file[end + HEAD :]
 
 
 class Refused(Exception):
@@ -150,7 +192,16 @@ def _level_coefficients(body: bytes, level: int) -> List[int]:
     return numbers
 
 
-def _content(file: bytes) -> Content:
+# Document 02, Eight: what may follow tag 19. 'After tag 19 a byte other than 32 is 15', however few bytes are left;
+# with 32 it is a field like the others, of '0 to 64 bytes'.
+def _note_part(reader: _Reader) -> NotePart:
+    if reader.file[reader.at : reader.at + 1] != bytes([TAG_NOTE]):
+        return NO_PART
+    offset = reader.at + HEAD
+    return NotePart(True, offset, len(reader.body(TAG_NOTE, 0, GREATEST_NOTE)))
+
+
+def _content(file: bytes) -> Tuple[Content, NotePart]:
     reader = _Reader(file)
     w, h = reader.body(TAG_SIDES, SIDES_BYTES, SIDES_BYTES)
     if not (side_allowed(w) and side_allowed(h)):
@@ -172,15 +223,22 @@ def _content(file: bytes) -> Content:
         numbers = _level_coefficients(reader.body(TAG_LEVEL_0 + level, length, length), level)
         for (i, j), number in zip(functions, numbers):
             coefficients[surface.place(level, i, j)] = number
-    # 'bytes after the last field'.
+    note = _note_part(reader)
+    # 'bytes after the last field'; Document 02, Eight: 'and so is any byte past the note'.
     if reader.at != len(file):
         raise Refused(15)
-    return Content(w, h, tree, coefficients)
+    return Content(w, h, tree, coefficients), note
 
 
-# Document 01, Calls: a file judged as far as 15: its content, or the refusal number.
-def judge(file: Sequence[int]) -> Union[Content, int]:
+# A file judged as far as 15: its content and the part of it that its note is, or the refusal number.
+def judge_noted(file: Sequence[int]) -> Union[Tuple[Content, NotePart], int]:
     try:
         return _content(bytes(file))
     except Refused as refused:
         return refused.number
+
+
+# Document 01, Calls: a file judged as far as 15: its content, or the refusal number. The note is passed over.
+def judge(file: Sequence[int]) -> Union[Content, int]:
+    judged = judge_noted(file)
+    return judged if isinstance(judged, int) else judged[0]

@@ -6,13 +6,14 @@
 #include <math.h>
 #include <string.h>
 
+#define NO_NOTE 0, NULL, 0
 enum { ONE = 211, FINE = 25 };  /* the places of 1 by 1, and of its level 1 */
 static const int64_t columns[4] = {-1000, 0, 1000, 2000}, fine_columns[5] = {-32000, 0, 32000, 64000, 96000};
 static const uint8_t flat[1] = {0}, split[5] = {4, 0, 0, 0, 0}, whole_1[1] = {1}, whole_3[1] = {3};
 static const uint8_t level_1[13] = {4, 4, 4, 1};
 
 static int64_t s[ONE], fine[ONE], many[KILN_PLACES], more[KILN_PLACES];
-static uint8_t tree[KILN_TREE_BYTES], bytes[KILN_PLACES], out[KILN_FILE_BYTES];
+static uint8_t tree[KILN_TREE_BYTES], bytes[KILN_PLACES], out[KILN_FILE_BYTES], file[112];
 static uint8_t level;
 static size_t length, visited, cost;
 static int64_t numerator, figure;
@@ -139,12 +140,12 @@ static void trees(void) {
   HELD(kiln_fresh(1, 1, 0, NULL, 0, more, ONE, &length) == KILN_TREE_OUTPUT_SHORT);
 }
 
-/* "The table file": that of S read, with its counts and without them, and the same cut short by a byte, and none; and S
-   written to it again, with them. */
+/* "The table file": that of S read, with its counts and without them, and the same cut short by a byte, and none; and
+   S written to it again, with them. */
 static void file_of_s(void) {
   static const uint8_t heads[23] = {1, 0, 2, 1, 1, 2, 0, 1, 0, 3, 0, 8, 0, 16, 0, 0, 0, 0, 0, 0, 16, 0, 80};
   static const uint8_t tail[9] = {17, 0, 0, 18, 0, 0, 19, 0, 0};
-  uint8_t file[112], older[101];
+  uint8_t older[101];
   size_t w, h;
   memcpy(file, heads, 23);
   for (size_t k = 0; k < 16; k++)
@@ -163,11 +164,64 @@ static void file_of_s(void) {
   HELD(kiln_read_file(NULL, 0, NULL, 0, NULL, 0, &length, &w, &h) == KILN_FILE_ENDS);
   memset(out, 9, sizeof out);
   length = 7;
-  HELD(kiln_write_file(1, 1, flat, 1, s, ONE, out, 111, &length) == KILN_FILE_OUTPUT_SHORT);
-  HELD(kiln_write_file(1, 1, flat, 1, s, ONE, NULL, 0, &length) == KILN_FILE_OUTPUT_SHORT);
+  HELD(kiln_write_file(1, 1, flat, 1, s, ONE, NO_NOTE, out, 111, &length) == KILN_FILE_OUTPUT_SHORT);
+  HELD(kiln_write_file(1, 1, flat, 1, s, ONE, NO_NOTE, NULL, 0, &length) == KILN_FILE_OUTPUT_SHORT);
   HELD(length == 7 && nines(0));
-  HELD(kiln_write_file(1, 1, flat, 1, s, ONE, out, 112, &length) == KILN_DONE);
+  HELD(kiln_write_file(1, 1, flat, 1, s, ONE, NO_NOTE, out, 112, &length) == KILN_DONE);
   HELD(length == 112 && !memcmp(out, file, 112) && nines(112));
+}
+
+/* Document 02, "A bench note": S written with a note of 0 to 64 bytes. The bench loader tells the part of the file
+   that it is, and the controller's loader passes over it. */
+static void note_of_s(void) {
+  static const uint8_t note[64] = {83, 0, 255, 32};
+  size_t w, h;
+  for (size_t n = 0; n <= 64; n++) {
+    memset(out, 9, sizeof out);
+    length = 7;
+    HELD(kiln_write_file(1, 1, flat, 1, s, ONE, 1, note, n, out, 114 + n, &length) == KILN_FILE_OUTPUT_SHORT);
+    HELD(length == 7 && nines(0));
+    HELD(kiln_write_file(1, 1, flat, 1, s, ONE, 1, note, n, out, 115 + n, &length) == KILN_DONE && length == 115 + n);
+    HELD(!memcmp(out, file, 112) && out[112] == 32 && out[113] == 0 && out[114] == n);
+    HELD(!memcmp(out + 115, note, n) && nines(115 + n));
+    memset(more, 9, sizeof more);
+    kiln_bench bench = kiln_load_bench(out, 115 + n, tree, 1, more, ONE);
+    HELD(bench.code == KILN_DONE && bench.length == 1 && bench.w == 1 && bench.h == 1 && !memcmp(more, s, sizeof s));
+    HELD(bench.note.stands == 1 && bench.note.offset == 115 && bench.note.length == n);
+    memset(more, 9, sizeof more);
+    HELD(kiln_read_file(out, 115 + n, tree, 1, more, ONE, &length, &w, &h) == KILN_DONE);
+    HELD(length == 1 && w == 1 && h == 1 && tree[0] == 0 && !memcmp(more, s, sizeof s));
+    HELD(kiln_read_file(out, 114 + n, tree, 1, more, ONE, &length, &w, &h) == KILN_FILE_ENDS);
+    HELD(kiln_read_file(out, 116 + n, tree, 1, more, ONE, &length, &w, &h) == KILN_FILE_GOES_ON);
+  }
+}
+
+/* "with none there, or a refused call, it says none and the part is empty"; "a lent note above 64 bytes gives 14". */
+static void no_note_of_s(void) {
+  static const uint8_t note[65] = {83};
+  uint8_t noted = 7;
+  size_t w = 7, h = 7, offset = 7, size = 7;
+  length = 7;
+  memset(more, 9, sizeof more);
+  memset(tree, 9, sizeof tree);
+  HELD(kiln_read_bench(file, 111, tree, 1, more, ONE, &length, &w, &h, &noted, &offset, &size) == KILN_FILE_ENDS);
+  HELD(length == 7 && w == 7 && h == 7 && noted == 7 && offset == 7 && size == 7);
+  HELD(tree[0] == 9 && !memcmp(more, more + 1, sizeof more - sizeof *more) && *(uint8_t *)more == 9);
+  HELD(kiln_read_bench(file, 112, tree, 1, more, ONE, &length, &w, &h, &noted, &offset, &size) == KILN_DONE);
+  HELD(length == 1 && w == 1 && h == 1 && noted == 0 && offset == 0 && size == 0 && !memcmp(more, s, sizeof s));
+  kiln_bench none = kiln_load_bench(file, 112, tree, 1, more, ONE);
+  kiln_bench cut = kiln_load_bench(file, 111, tree, 1, more, ONE);
+  HELD(none.code == KILN_DONE && none.length == 1 && none.w == 1 && none.h == 1);
+  HELD(none.note.stands == 0 && none.note.offset == 0 && none.note.length == 0);
+  HELD(cut.code == KILN_FILE_ENDS && cut.length == 0 && cut.w == 0 && cut.h == 0);
+  HELD(cut.note.stands == 0 && cut.note.offset == 0 && cut.note.length == 0);
+  length = 7;
+  memset(out, 9, sizeof out);
+  HELD(kiln_write_file(1, 1, flat, 1, s, ONE, 1, note, 65, out, sizeof out, &length) == KILN_FILE_FIELD_LENGTH);
+  HELD(kiln_write_file(1, 1, flat, 1, s, ONE, 1, note, 65, out, 0, &length) == KILN_FILE_FIELD_LENGTH);
+  HELD(kiln_write_file(1, 0, flat, 1, s, ONE, 1, note, 65, out, 0, &length) == KILN_SIDE && length == 7 && nines(0));
+  HELD(kiln_write_file(1, 1, flat, 1, s, ONE, 0, note, 65, out, 112, &length) == KILN_DONE && length == 112);
+  HELD(!memcmp(out, file, 112) && nines(112));
 }
 
 /* "Each acceptable table has one file": that of S with level 1, 25 numbers after a tree of 13 bytes, read again; 18 is
@@ -180,27 +234,28 @@ static void files_written(void) {
   static const uint8_t limits[10] = {1, 0xf4, 0, 0, 0, 0xfe, 0x0c, 0, 0, 0};
   size_t w, h;
   memset(out, 9, sizeof out);
-  HELD(kiln_write_file(1, 1, level_1, 13, fine, ONE, out, KILN_FILE_BYTES, &length) == KILN_DONE && length == 169);
+  HELD(kiln_write_file(1, 1, level_1, 13, fine, ONE, NO_NOTE, out, KILN_FILE_BYTES, &length) == KILN_DONE);
+  HELD(length == 169);
   HELD(!memcmp(out, heads, 8) && !memcmp(out + 8, level_1, 13) && !memcmp(out + 21, counts, 11));
   HELD(!memcmp(out + 32, levels, 6) && !memcmp(out + 38, lowest, 5) && !memcmp(out + 163, tail, 6) && nines(169));
   HELD(kiln_read_file(out, 169, tree, sizeof tree, more, ONE, &length, &w, &h) == KILN_DONE && w == 1 && h == 1);
   HELD(length == 13 && !memcmp(tree, level_1, 13) && !memcmp(more, fine, sizeof fine));
   length = 7;
   memset(out, 9, sizeof out);
-  HELD(kiln_write_file(9, 1, level_1, 13, fine, ONE, out, 9, &length) == KILN_SIDE);
-  HELD(kiln_write_file(1, 1, level_1, 12, fine, ONE, out, 9, &length) == KILN_TREE);
-  HELD(kiln_write_file(1, 1, level_1, 13, fine, ONE - 1, out, 9, &length) == KILN_NUMBERS_LENGTH);
+  HELD(kiln_write_file(9, 1, level_1, 13, fine, ONE, NO_NOTE, out, 9, &length) == KILN_SIDE);
+  HELD(kiln_write_file(1, 1, level_1, 12, fine, ONE, NO_NOTE, out, 9, &length) == KILN_TREE);
+  HELD(kiln_write_file(1, 1, level_1, 13, fine, ONE - 1, NO_NOTE, out, 9, &length) == KILN_NUMBERS_LENGTH);
   more[16] = 2048001, more[0] = 1;
-  HELD(kiln_write_file(1, 1, level_1, 13, more, ONE, out, 168, &length) == KILN_COEFFICIENT_LIMIT);
+  HELD(kiln_write_file(1, 1, level_1, 13, more, ONE, NO_NOTE, out, 168, &length) == KILN_COEFFICIENT_LIMIT);
   more[16] = 2048000;
-  HELD(kiln_write_file(1, 1, level_1, 13, more, ONE, out, 168, &length) == KILN_PASSIVE_NOT_ZERO);
+  HELD(kiln_write_file(1, 1, level_1, 13, more, ONE, NO_NOTE, out, 168, &length) == KILN_PASSIVE_NOT_ZERO);
   more[0] = 0;
-  HELD(kiln_write_file(1, 1, level_1, 13, more, ONE, out, 168, &length) == KILN_FILE_OUTPUT_SHORT);
+  HELD(kiln_write_file(1, 1, level_1, 13, more, ONE, NO_NOTE, out, 168, &length) == KILN_FILE_OUTPUT_SHORT);
   HELD(length == 7 && nines(0));
   for (size_t k = 0; k < KILN_PLACES; k++) many[k] = k < 1707 ? 0 : -1;
   many[1707] = INT64_C(8388608000), many[1708] = -many[1707];  /* the limits of level 3 */
-  HELD(kiln_write_file(8, 8, whole_3, 1, many, KILN_PLACES, out, 22476, &length) == KILN_FILE_OUTPUT_SHORT);
-  HELD(kiln_write_file(8, 8, whole_3, 1, many, KILN_PLACES, out, 22477, &length) == KILN_DONE);
+  HELD(kiln_write_file(8, 8, whole_3, 1, many, KILN_PLACES, NO_NOTE, out, 22476, &length) == KILN_FILE_OUTPUT_SHORT);
+  HELD(kiln_write_file(8, 8, whole_3, 1, many, KILN_PLACES, NO_NOTE, out, 22477, &length) == KILN_DONE);
   HELD(length == 22477 && out[29] == 19 && out[30] == 0x57 && out[31] == 0xad && nines(22477));
   HELD(!memcmp(out + 9, fine_counts, 11) && !memcmp(out + 32, limits, 10) && out[42] == 255 && out[22476] == 255);
 }
@@ -214,6 +269,8 @@ int main(void) {
   costs();
   trees();
   file_of_s();
+  note_of_s();
+  no_note_of_s();
   files_written();
   return all_held("calls from C");
 }

@@ -14,6 +14,7 @@ from typing import Dict, List, NamedTuple, Tuple
 
 from counted import with_counts, without_counts
 from expected import ROOT, six_places
+from noted import copies, noted
 from rust_words import refusal_words
 
 import calls
@@ -78,9 +79,13 @@ def cases() -> List[Tuple[str, bytes, List[Tuple[int, int, int]]]]:
     bare = without_counts(s)
     chosen += [("counted", with_counts(s, [16, 0, 0, 0]), [(64, 5, 1_000), (129, 128, 0)]),
                ("bare", bare, [(64, 5, 1_000)]), ("bare-refined", without_counts(refined), here)]
+    # A note moves no figure.
+    chosen += [(name, file, [(64, 5, 1_000)]) for name, file in copies(sample["bench-s-counted"]).items()]
+    chosen += [("noted-refined", noted(refined, bytes(64)), here + past[:4])]
     faults = {
         "empty": b"", "cut": refined[:100], "tag": b"\2" + s[1:], "length": s[:2] + b"\3" + s[3:], "on": s + b"\0",
         "long": refined + bytes(70_000), "side": s[:3] + b"\x09" + s[4:], "tree": s[:8] + b"\1" + s[9:],
+        "noted-long": noted(refined, bytes(64)) + b" " * 70_000, "spaces": s + b" " * 70_000,
         "limit": bare[:12] + tablefile.coefficient_bytes(32_001) + bare[17:],
         "count": with_counts(s, [16, 0, 0, 1]),
     }

@@ -1,5 +1,5 @@
-"""Writes two copies of a table file: one without the counts of tag 3, as earlier versions wrote it, and one whose count
-of level 3 is one more than its tree's, found by the unrelated evaluator.
+"""Writes two copies of a table file: one without the counts of tag 3, as versions before 0.3.0 wrote it, and one whose
+count of level 3 is one more than its tree's, found by the unrelated evaluator.
 
 Run as: python3 tests/hands/counted.py FILE WITHOUT MISCOUNTED
 """

@@ -1,99 +1,10 @@
 /* The counts in a table file (document 02, "Counts in the file"): files with them, without them and with wrong ones,
-   each refusal beside another, and what kiln_file_counts reads off. The files are put together here, field by field.
+   each refusal beside another, and what kiln_file_counts reads off.
    Prints a line for each thing that is not as the papers say, and a count at the end. */
-#include "kiln_table.h"
+#include "files.h"
 #include "held.h"
 
-#include <string.h>
-
-/* A sheet and its tree, with the active functions of each level: document 01's bench sheet, and a sheet with a quarter
-   of each level, of which the evaluator has the counts. */
-struct form {
-  size_t w, h, tree_len;
-  uint8_t tree[13];
-  size_t active[4];
-};
-enum { FORMS = 5, MIXED = 4, FIELD = 11 };
-static const struct form forms[FORMS] = {
-  {1, 1, 1, {0}, {16, 0, 0, 0}},
-  {1, 1, 13, {4, 4, 4, 1}, {0, 25, 0, 0}},
-  {2, 1, 13, {4, 4, 4, 1}, {16, 10, 0, 0}},
-  {8, 8, 1, {3}, {0, 0, 0, 4489}},
-  {8, 8, 5, {4, 0, 1, 2, 3}, {49, 88, 304, 1024}}};
-
-/* Some bytes more than any file, so that one can go on. */
-static uint8_t file[KILN_FILE_BYTES + 16], again[KILN_FILE_BYTES], tree[KILN_TREE_BYTES], bytes[KILN_PLACES];
-static int64_t numbers[KILN_PLACES];
-static const struct kiln_room room = {tree, KILN_TREE_BYTES, numbers, KILN_PLACES};
-
-static size_t head_put(size_t at, size_t tag, size_t length) {
-  file[at] = (uint8_t)tag;
-  file[at + 1] = (uint8_t)(length / 256);
-  file[at + 2] = (uint8_t)(length % 256);
-  return at + 3;
-}
-
-/* Where the field after the tree's starts. */
-static size_t after_tree(const struct form *form) {
-  return 8 + form->tree_len;
-}
-
-/* Puts together a file whose k-th active coefficient in each level is k, with these counts or, for NULL, without; its
-   length. */
-static size_t file_of(const struct form *form, const size_t *counts) {
-  size_t at = head_put(0, 1, 2);
-  file[at++] = (uint8_t)form->w;
-  file[at++] = (uint8_t)form->h;
-  at = head_put(at, 2, form->tree_len);
-  memcpy(file + at, form->tree, form->tree_len);
-  at += form->tree_len;
-  if (counts) {
-    at = head_put(at, 3, 8);
-    for (size_t level = 0; level < 4; level++) {
-      file[at++] = (uint8_t)(counts[level] / 256);
-      file[at++] = (uint8_t)(counts[level] % 256);
-    }
-  }
-  for (size_t level = 0; level < 4; level++) {
-    at = head_put(at, 16 + level, 5 * form->active[level]);
-    for (size_t k = 0; k < form->active[level]; k++, at += 5) {
-      memset(file + at, 0, 3);
-      file[at + 3] = (uint8_t)(k / 256);
-      file[at + 4] = (uint8_t)(k % 256);
-    }
-  }
-  return at;
-}
-
-/* What reading so much of the file is refused with, where all that was lent holds what it held; 255 where it does not,
-   0 where it is accepted. */
-static uint8_t refusal_of(size_t length) {
-  struct kiln_table read = {9, 9, NULL, 9, NULL, 9};
-  int same = 1;
-  memset(tree, 77, sizeof tree);
-  for (size_t k = 0; k < KILN_PLACES; k++) numbers[k] = 77;
-  uint8_t refused = kiln_table_read_file(file, length, room, &read);
-  if (!refused) return 0;
-  for (size_t k = 0; k < KILN_TREE_BYTES; k++) same &= tree[k] == 77;
-  for (size_t k = 0; k < KILN_PLACES; k++) same &= numbers[k] == 77;
-  same &= read.w == 9 && read.h == 9 && !read.tree && read.tree_len == 9 && !read.numbers && read.numbers_len == 9;
-  return same ? refused : 255;
-}
-
-/* Whether the file is read as a table of this form whose k-th active coefficient in each level is k. */
-static int reads_as(const struct form *form, size_t length, struct kiln_table *read) {
-  if (kiln_table_read_file(file, length, room, read)) return 0;
-  int same = read->w == form->w && read->h == form->h && read->tree_len == form->tree_len &&
-             !memcmp(read->tree, form->tree, form->tree_len) && read->numbers_len == kiln_places(form->w, form->h);
-  const int64_t *number = numbers;
-  for (size_t level = 0; same && level < 4; level++) {
-    size_t places = kiln_level_places(form->w, form->h, level), k = 0;
-    same &= !kiln_table_activity(read, level, bytes, places);
-    for (size_t place = 0; place < places; place++) same &= *number++ == (bytes[place] ? (int64_t)k++ : 0);
-    same &= k == form->active[level];
-  }
-  return same;
-}
+enum { FIELD = 11 };  /* the counts' field: its head and eight bytes */
 
 /* "Files lacking it are still loaded. The writer always puts it, so saving what was loaded reproduces the bytes only of
    files that had it." 18 counts the field. */
@@ -224,7 +135,7 @@ static void beside_other_causes(void) {
   HELD(kiln_read_file(file, length, tree, 0, numbers, KILN_PLACES - 1, &read, &w, &h) == KILN_OUTPUT_LENGTH);
   HELD(kiln_read_file(file, length, tree, 4, numbers, KILN_PLACES, &read, &w, &h) == KILN_TREE_OUTPUT_SHORT);
   HELD(read == 7 && w == 7 && h == 7);
-  HELD(KILN_FILE_BYTES == 7 * 3 + 2 + KILN_TREE_BYTES + 8 + 5 * KILN_PLACES);  /* and one byte more judges any input */
+  file[length] = 0;
   HELD(refusal_of(KILN_FILE_BYTES + 1) == KILN_FILE_GOES_ON && refusal_of(sizeof file) == KILN_FILE_GOES_ON);
   memmove(file + length, file + end - FIELD, FIELD);  /* the counts a second time, and only, after the last field */
   HELD(refusal_of(length + FIELD) == KILN_FILE_GOES_ON);

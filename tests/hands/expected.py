@@ -72,7 +72,7 @@ def saved(file: bytes) -> Tuple[List[str], bytes]:
     before, finer = shown("loaded", *content), refined(content)
     if isinstance(finer, int):
         return [before, f"refused {finer}"], b""
-    out = calls.write_file(*finer, [0] * 32_376)
+    out = calls.write_file(*finer, [0] * 32_443)
     length = out.answer[1]
     active = ", ".join(f"{count} of level {level}" for level, count in enumerate(active_counts(finer)))
     told = [before, f"saved: {length} bytes", f"active: {active}", shown("loaded again", *finer)]

@@ -1,8 +1,8 @@
 #!/usr/bin/env bash
 # The library from C, C++ and Rust: what the archive needs and has; that C, Rust and the library agree on the types of
-# each call; every call on the bench sheet, plain and with a table in a struct; the counts in files; the header's
-# version and words; the examples, held to the evaluator; the Rust crate's doc tests. All that is C is built by gcc and
-# clang, as C99 and as C++11.
+# each call; every call on the bench sheet, plain and with a table in a struct; the counts and the notes in files; the
+# header's version and words; the examples, held to the evaluator; the Rust crate's doc tests. All that is C is built
+# by gcc and clang, as C99 and as C++11.
 #
 # Run as: tests/hands/run.sh
 set -euo pipefail
@@ -29,22 +29,36 @@ if [ "$needs" != "memcpy memset" ]; then
 fi
 types=$(python3 tests/hands/check_types.py "$archive") || { echo "$types"; exit 1; }
 
-# What the words and two examples must print, and what one of them must save, for each sample table, for one that is cut
-# short, and for one without its counts and with a wrong one.
+# What the words and three examples must print, and what two of them must save, for each sample table, for one that is
+# cut short, for one without its counts and with a wrong one, and for those with a note.
 python3 tests/hands/rust_words.py >"$room/words.expected"
 head -c 100 tables/kiln-refined-near-top-heat.table >"$room/cut.table"
 python3 tests/hands/counted.py tables/kiln-unrefined.table "$room/without-counts.table" "$room/miscounted.table"
-files=(tables/*.table "$room/cut.table" "$room/without-counts.table" "$room/miscounted.table")
-rm -f "$room"/*.saved
+rm -rf "$room/noted" "$room"/*.saved "$room"/*.kept
+mkdir -p "$room/noted"
+python3 tests/hands/noted.py tables/kiln-unrefined-counted.table "$room/noted"
+files=(tables/*.table "$room/cut.table" "$room/without-counts.table" "$room/miscounted.table" "$room"/noted/*.table)
 for file in "${files[@]}"; do
   name=$room/$(basename "$file")
   python3 tests/hands/expected.py "$file" >"$name.read_and_refine"
   python3 tests/hands/expected.py "$file" "$name.saved" >"$name.save"
+  python3 tests/hands/expected_note.py "$file" "$name.kept" >"$name.note"
 done
-if [ "$(find "$room" -name '*.saved' | wc -l)" -lt 2 ]; then
-  echo "hands: the sample tables give the example too little to save" >&2
-  exit 1
-fi
+for made in saved kept; do
+  if [ "$(find "$room" -name "*.$made" | wc -l)" -ne 13 ]; then
+    echo "hands: the table files give the examples too little to save" >&2
+    exit 1
+  fi
+done
+
+# Notes that are named to an example: of no bytes, of some, of as many as there may be and of one more, for a table
+# with a note of its own.
+sixty_four=$(printf '%064d' 0)
+named=("" "stand 2: 50% \\ 'u'" $'\xff\x01\n' "$sixty_four" "${sixty_four}1")
+own=$room/noted/note-of-words.table
+for k in "${!named[@]}"; do
+  python3 tests/hands/expected_note.py "$own" "$room/named-$k.kept" "${named[k]}" >"$room/named-$k.note"
+done
 
 # Runs an example, which must print what a file has and exit with the refusal number there.
 example() {
@@ -57,6 +71,12 @@ example() {
     echo "hands: $* exits with $status" >&2
     exit 1
   fi
+}
+
+# Whether an example saved what it must; where it is refused, nothing.
+saved() {
+  if [ -e "$1" ] || [ -e "$room/given.table" ]; then cmp "$1" "$room/given.table"; fi
+  rm -f "$room/given.table"
 }
 
 strict=(-O2 -pedantic -Wall -Wextra -Werror -Iinclude)
@@ -76,24 +96,32 @@ for build in "${builds[@]}"; do
   calls=$("$into/calls") || { echo "${c[0]}: $calls"; exit 1; }
   structs=$("$into/structs") || { echo "${c[0]}: $structs"; exit 1; }
   counts=$("$into/counts") || { echo "${c[0]}: $counts"; exit 1; }
+  notes=$("$into/notes") || { echo "${c[0]}: $notes"; exit 1; }
   "$into/words" | diff "$room/words.expected" -
+  rm -f "$room/given.table"
   for file in "${files[@]}"; do
     name=$room/$(basename "$file")
     example "$name.read_and_refine" "$into/read_and_refine" "$file"
-    rm -f "$room/given.table"
     example "$name.save" "$into/save" "$file" "$room/given.table"
-    # Where the example is refused, nothing may be saved.
-    if [ -e "$name.saved" ] || [ -e "$room/given.table" ]; then cmp "$name.saved" "$room/given.table"; fi
+    saved "$name.saved"
+    example "$name.note" "$into/note" "$file" "$room/given.table"
+    saved "$name.kept"
   done
-  status=0
-  "$into/save" tables/kiln-unrefined.table "$room/none/given.table" >/dev/null 2>"$room/error" || status=$?
-  echo "save: '$room/none/given.table' can't be written" | diff - "$room/error"
-  [ "$status" -eq 255 ] || { echo "hands: save exits with $status where it can't write" >&2; exit 1; }
+  for k in "${!named[@]}"; do
+    example "$room/named-$k.note" "$into/note" "$own" "$room/given.table" "${named[k]}"
+    saved "$room/named-$k.kept"
+  done
+  for saving in save note; do
+    status=0
+    "$into/$saving" tables/kiln-unrefined.table "$room/none/given.table" >/dev/null 2>"$room/error" || status=$?
+    echo "$saving: '$room/none/given.table' can't be written" | diff - "$room/error"
+    [ "$status" -eq 255 ] || { echo "hands: $saving exits with $status where it can't write" >&2; exit 1; }
+  done
   points+=("$into/point")
 done
 point=$(python3 tests/hands/check_point.py "${points[@]}") || { echo "$point"; exit 1; }
 
 tests/hands/rust.sh
 
-echo "hands: $types; with each of ${#builds[@]} compilers $calls; $structs; $counts; $point;" \
+echo "hands: $types; with each of ${#builds[@]} compilers $calls; $structs; $counts; $notes; $point;" \
   "examples as expected on ${#files[@]} files"

@@ -65,9 +65,12 @@ in_crate build --offline --locked --examples || fail "an example does not build"
 examples=$root/target/cargo/debug/examples
 head -c 100 tables/kiln-refined-near-top-heat.table >"$room/cut.table"
 python3 tests/hands/counted.py tables/kiln-unrefined.table "$room/without-counts.table" "$room/miscounted.table"
-files=("$root"/tables/*.table "$room/cut.table" "$room/without-counts.table" "$room/miscounted.table")
-declare -A words=([6]="point off the sheet" [12]="file ends inside a head or body"
-  [20]="count in a file differs from the tree's")
+mkdir "$room/noted"
+python3 tests/hands/noted.py tables/kiln-unrefined-counted.table "$room/noted"
+files=("$root"/tables/*.table "$room/cut.table" "$room/without-counts.table" "$room/miscounted.table"
+  "$room"/noted/*.table)
+declare -A words=([6]="point off the sheet" [12]="file ends inside a head or body" [14]="field length wrong"
+  [15]="bytes after the last field" [20]="count in a file differs from the tree's")
 declare -A seen=()
 
 # Runs an example, which must print what a file has but for the refusal there, which main shows.
@@ -85,16 +88,28 @@ example() {
     [ "$status" -eq 0 ] || fail "$* ends with $status" "$room/error"
   fi
 }
+
+# Runs an example that saves a file: what it must print and save is told by a script. Where the example is refused,
+# nothing may be saved.
+saving() {
+  local script=$1 program=$2 file=$3
+  shift 3
+  rm -f "$room/saved.table" "$room/given.table"
+  python3 "tests/hands/$script" "$file" "$room/saved.table" "$@" >"$room/expected"
+  example "$room/expected" "$examples/$program" "$file" "$room/given.table" "$@"
+  if [ -e "$room/saved.table" ] || [ -e "$room/given.table" ]; then
+    cmp "$room/saved.table" "$room/given.table" || fail "$program saves another file for $file"
+  fi
+}
 for file in "${files[@]}"; do
   python3 tests/hands/expected.py "$file" >"$room/expected"
   example "$room/expected" "$examples/read_and_refine" "$file"
-  rm -f "$room/saved.table" "$room/given.table"
-  python3 tests/hands/expected.py "$file" "$room/saved.table" >"$room/expected"
-  example "$room/expected" "$examples/save" "$file" "$room/given.table"
-  # Where the example is refused, nothing may be saved.
-  if [ -e "$room/saved.table" ] || [ -e "$room/given.table" ]; then
-    cmp "$room/saved.table" "$room/given.table" || fail "save saves another file for $file"
-  fi
+  saving expected.py save "$file"
+  saving expected_note.py note "$file"
+done
+sixty_four=$(printf '%064d' 0)
+for named in "" "stand 2: 50% \\ 'ü'" $'\xff\x01\n' "$sixty_four" "${sixty_four}1"; do
+  saving expected_note.py note "$room/noted/note-of-words.table" "$named"
 done
 [ ${#seen[@]} -eq ${#words[@]} ] || fail "the examples were not refused with each of ${!words[*]}"
 around=$(python3 tests/hands/around.py "$examples/around") || fail "around differs"

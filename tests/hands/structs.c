@@ -61,11 +61,10 @@ static void file_of_s(uint8_t *file) {
   memcpy(file + 103, tail, 9);
 }
 
-/* Every place of both rooms holds 77, so that what is written shows. */
-static void rooms_filled(void) {
-  memset(tree_a, 77, sizeof tree_a);
-  memset(tree_b, 77, sizeof tree_b);
-  for (size_t k = 0; k < KILN_PLACES; k++) numbers_a[k] = numbers_b[k] = 77;
+/* Every place of a room holds 77, so that what is written shows. */
+static void filled(struct kiln_room room) {
+  memset(room.tree, 77, room.tree_len);
+  for (size_t k = 0; k < room.numbers_len; k++) room.numbers[k] = 77;
 }
 
 static int room_b_untouched(void) {
@@ -121,6 +120,43 @@ static void s_is_written(const struct kiln_table *s) {
   HELD(length == 77 && out[0] == 77 && !memcmp(out, out + 1, sizeof out - 1));
   HELD(kiln_table_write_file(s, out, sizeof out, &length) == KILN_DONE && length == S_BYTES);
   HELD(!memcmp(out, file, S_BYTES) && out[S_BYTES] == 77 && out[S_BYTES + 1] == 77 && out[S_BYTES + 2] == 77);
+}
+
+/* "The bench loader also says whether a note stands there ..."; "The writer takes a note or none". */
+static void s_has_a_note(const struct kiln_table *s) {
+  static const uint8_t note[5] = {7, 32, 0, 0, 255};
+  uint8_t file[S_BYTES + 8], out[S_BYTES + 8];
+  struct kiln_table other = {9, 9, NULL, 9, NULL, 9};
+  struct kiln_room few = room_b, short_tree = room_b;
+  kiln_bench bench;
+  size_t length = 77;
+  few.numbers_len = ONE - 1;
+  short_tree.tree_len = 0;
+  file_of_s(file);
+  HELD(kiln_table_write_noted(s, 1, note, 5, out, S_BYTES + 7, &length) == KILN_FILE_OUTPUT_SHORT && length == 77);
+  HELD(kiln_table_write_noted(s, 1, note, 5, out, S_BYTES + 8, &length) == KILN_DONE && length == S_BYTES + 8);
+  HELD(!memcmp(out, file, S_BYTES) && out[S_BYTES] == 32 && out[S_BYTES + 1] == 0 && out[S_BYTES + 2] == 5);
+  HELD(!memcmp(out + S_BYTES + 3, note, 5));
+  HELD(kiln_table_write_noted(s, 1, out, 65, file, 0, &length) == KILN_FILE_FIELD_LENGTH && length == S_BYTES + 8);
+  for (int k = 0; k < 4; k++) {
+    bench = k == 0 ? kiln_table_load_bench(out, S_BYTES + 7, room_b, &other)
+          : k == 1 ? kiln_table_load_bench(out, S_BYTES + 8, few, &other)
+          : k == 2 ? kiln_table_load_bench(out, S_BYTES + 8, short_tree, &other)
+                   : kiln_table_load_bench(NULL, 0, room_b, &other);
+    HELD(bench.code == (k % 3 == 0 ? 12 : 15 + k) && !bench.length && !bench.w && !bench.h);
+    HELD(!bench.note.stands && !bench.note.offset && !bench.note.length && room_b_untouched());
+  }
+  HELD(other.w == 9 && other.h == 9 && !other.tree && other.tree_len == 9 && !other.numbers && other.numbers_len == 9);
+  bench = kiln_table_load_bench(out, S_BYTES + 8, room_b, &other);
+  HELD(bench.code == KILN_DONE && bench.length == 1 && bench.w == 1 && bench.h == 1);
+  HELD(is(&other, 1, 1, room_b, 1, ONE) && !memcmp(numbers_a, numbers_b, ONE * sizeof *numbers_a));
+  HELD(bench.note.stands == 1 && bench.note.offset == S_BYTES + 3 && bench.note.length == 5);
+  memset(file, 77, sizeof file);
+  HELD(kiln_table_write_noted(&other, bench.note.stands, out + bench.note.offset, bench.note.length, file, sizeof file,
+                              &length) == KILN_DONE && length == S_BYTES + 8 && !memcmp(file, out, length));
+  bench = kiln_table_load_bench(out, S_BYTES, room_b, &other);
+  HELD(bench.code == KILN_DONE && !bench.note.stands && !bench.note.offset && !bench.note.length);
+  filled(room_b);
 }
 
 /* "S, level 1 box 0,0 to 4,4: tree 4 4 4 1 and nine 0; 25 active, columns ..."; "least level 1, 4 nodes". */
@@ -275,13 +311,23 @@ static void regions_beside_plain(const struct kiln_table *table) {
   HELD(same);
 }
 
-/* The file of a table, and the table that it loads in the room that the table is not in. */
+/* The file of a table, with a note and without, and the table that it loads in the room that the table is not in. */
 static void file_beside_plain(const struct kiln_table *table) {
   const struct kiln_table t = *table;
   struct kiln_table again;
-  size_t length[2] = {7, 7};
+  size_t length[2] = {7, 7}, w, h, offset, size;
+  uint8_t noted;
+  HELD(kiln_table_write_noted(&t, 1, t.tree, 9, bytes, sizeof bytes, &length[0]) == KILN_DONE);
+  HELD(kiln_write_file(PLAIN(t), 1, t.tree, 9, plain_bytes, sizeof plain_bytes, &length[1]) == KILN_DONE);
+  HELD(length[0] == length[1] && !memcmp(bytes, plain_bytes, length[0]));
+  kiln_bench bench = kiln_table_load_bench(bytes, length[0], room_b, &again);
+  HELD(kiln_read_bench(bytes, length[0], plain_tree, KILN_TREE_BYTES, plain_numbers, t.numbers_len, &length[1], &w, &h,
+                       &noted, &offset, &size) == bench.code);
+  HELD(bench.code == KILN_DONE && plain_is(&again, length[1]) && w == t.w && h == t.h);
+  HELD(bench.note.stands == 1 && noted == 1 && bench.note.offset == offset && bench.note.length == 9 && size == 9);
+  HELD(offset == length[0] - 9 && !memcmp(bytes + offset, t.tree, 9));
   HELD(kiln_table_write_file(&t, bytes, sizeof bytes, &length[0]) == KILN_DONE);
-  HELD(kiln_write_file(PLAIN(t), plain_bytes, sizeof plain_bytes, &length[1]) == KILN_DONE);
+  HELD(kiln_write_file(PLAIN(t), 0, NULL, 0, plain_bytes, sizeof plain_bytes, &length[1]) == KILN_DONE);
   HELD(length[0] == length[1] && !memcmp(bytes, plain_bytes, length[0]));
   HELD(kiln_table_read_file(bytes, length[0], room_b, &again) == KILN_DONE && plain_is(&again, t.tree_len));
   HELD(kiln_table_write_file(&t, bytes, length[0] - 1, &length[0]) == KILN_FILE_OUTPUT_SHORT);
@@ -320,9 +366,11 @@ static void beside_plain(void) {
 
 int main(void) {
   struct kiln_table s;
-  rooms_filled();
+  filled(room_a);
+  filled(room_b);
   s_is_read(&s);
   s_is_written(&s);
+  s_has_a_note(&s);
   box_is_inserted(&s);
   two_by_one_from_file();
   two_by_one();
