@@ -7,7 +7,7 @@ use lib.Ieee.{Float}
 use mir.Syntax.{w64}
 use mir.Val.{SFits, toZ, ofZ}
 use mir.ValLaws.{toZ-ofZ}
-use Rattle.surface.specs.Calls.{Answer, refused, gives, answer, LeastLevel}
+use Rattle.surface.specs.Calls.{Answer, refused, gives, answer, LevelsUnder}
 use Rattle.surface.specs.FloatReading.{FloatMeets}
 use Rattle.surface.specs.Note.{NotePart}
 use Rattle.surface.specs.TableFile.{FileResult}
@@ -17,12 +17,12 @@ use Rattle.answers.specs.declared.Length.{Length}
 use Rattle.answers.specs.declared.Length.the-variants.{Bytes, Refused}
 use Rattle.answers.specs.Codes.{codeOf, NumberTold, LeastTold, WattsAfter, FileTold, NoteAfter}
 
-pub told-level : {o : Answer LeastLevel} (l v a b : ℕ) → gives (record { level = l; visited = v }) ≡ o
-    → LeastTold o 0 a l b v
-told-level l v a b e = subst (λ o. LeastTold o 0 a l b v) e (refl, refl, refl)
+pub told-levels : {o : Answer LevelsUnder} (l g v a b c : ℕ)
+    → gives (record { least = l; greatest = g; visited = v }) ≡ o → LeastTold o 0 a l b g c v
+told-levels l g v a b c e = subst (λ o. LeastTold o 0 a l b g c v) e (refl, refl, refl, refl)
 
-pub told-refused : {o : Answer LeastLevel} (n a b : ℕ) → refused n ≡ o → LeastTold o n a a b b
-told-refused n a b e = subst (λ o. LeastTold o n a a b b) e (refl, refl, refl)
+pub told-refused : {o : Answer LevelsUnder} (n a b c : ℕ) → refused n ≡ o → LeastTold o n a a b b c c
+told-refused n a b c e = subst (λ o. LeastTold o n a a b b c c) e (refl, refl, refl, refl)
 
 pub code-done : {A : Type 0} {o : Answer A} (a : A) → gives a ≡ o → 0 ≡ codeOf o
 code-done a e = subst (λ o. 0 ≡ codeOf o) e refl

@@ -2,7 +2,7 @@
 use Prim.Native.Nat.{ℕ}
 use lib.IntN.{ℤ}
 use lib.Ieee.{Float}
-use Rattle.surface.specs.Calls.{Answer, refused, gives, LeastLevel}
+use Rattle.surface.specs.Calls.{Answer, refused, gives, LevelsUnder}
 use Rattle.surface.specs.TableFile.{FileResult}
 use Rattle.surface.specs.Note.{NotePart}
 use Rattle.answers.specs.declared.Outcome as OutcomeCases
@@ -31,8 +31,8 @@ abbrev pub lengthAnswer : Length → Answer ℕ
 lengthAnswer (LengthCases.the-variants.Bytes n) = gives n
 lengthAnswer (LengthCases.the-variants.Refused n) = refused n
 
-abbrev pub leastAnswer : Least → Answer LeastLevel
-leastAnswer (LeastCases.the-variants.Level l v) = gives (record { level = l; visited = v })
+abbrev pub leastAnswer : Least → Answer LevelsUnder
+leastAnswer (LeastCases.the-variants.Levels l g v) = gives (record { least = l; greatest = g; visited = v })
 leastAnswer (LeastCases.the-variants.Refused n) = refused n
 
 abbrev pub exactAnswer : Exact → Answer ℤ

@@ -6,7 +6,7 @@ use Prim.Native.Nat.{ℕ, _^_}
 use lib.IntN.{ℤ}
 use lib.Ieee.{Float}
 use Rattle.surface.specs.Truncation.{D}
-use Rattle.surface.specs.Calls.{Answer, refused, gives, LeastLevel, Written, Done}
+use Rattle.surface.specs.Calls.{Answer, refused, gives, LevelsUnder, Written, Done}
 use Rattle.surface.specs.FloatReading.{Near}
 use Rattle.surface.specs.Note.{NotePart}
 use Rattle.surface.specs.TableFile.{FileResult}
@@ -30,16 +30,22 @@ itself n = n
 abbrev pub NumberTold : {A : Type 0} → Answer A → ℕ → A → A → Type 0
 NumberTold o code before after = (code ≡ codeOf o) × (after ≡ orGiven itself o before)
 
-abbrev pub levelOf : LeastLevel → ℕ
-levelOf a = a .level
+abbrev pub leastOf : LevelsUnder → ℕ
+leastOf a = a .least
 
-abbrev pub visitedOf : LeastLevel → ℕ
+abbrev pub greatestOf : LevelsUnder → ℕ
+greatestOf a = a .greatest
+
+abbrev pub visitedOf : LevelsUnder → ℕ
 visitedOf a = a .visited
 
--- the same of a least level, whose parameters receive the level and the number of nodes visited
-abbrev pub LeastTold : Answer LeastLevel → ℕ → ℕ → ℕ → ℕ → ℕ → Type 0
-LeastTold o code level₀ level visited₀ visited =
-    (code ≡ codeOf o) × (level ≡ orGiven levelOf o level₀) × (visited ≡ orGiven visitedOf o visited₀)
+-- the same of a least level, whose parameters receive it, the greatest level and the number of nodes visited
+abbrev pub LeastTold : Answer LevelsUnder → ℕ → ℕ → ℕ → ℕ → ℕ → ℕ → ℕ → Type 0
+LeastTold o code least₀ least greatest₀ greatest visited₀ visited =
+    (code ≡ codeOf o)
+    × (least ≡ orGiven leastOf o least₀)
+    × (greatest ≡ orGiven greatestOf o greatest₀)
+    × (visited ≡ orGiven visitedOf o visited₀)
 
 -- the f64 that stands at a parameter afterwards: what stood there, or watts within 2^-30 of the exact reading
 abbrev pub WattsAfter : Answer ℤ → Float → Float → Type 0

@@ -12,9 +12,13 @@ pub enum Length {
     Refused(u8),
 }
 
-// The least level under a box, with the number of tree nodes visited.
+// The least and the greatest level under a box, with the number of tree nodes visited.
 pub enum Least {
-    Level { level: u8, visited: usize },
+    Levels {
+        least: u8,
+        greatest: u8,
+        visited: usize,
+    },
     Refused(u8),
 }
 

@@ -11,7 +11,7 @@ use lib.ListN.{length, replicate, length-replicate}
 use lib.Dec.{ltb, eqb, lit<, lit≤}
 use lib.Signed.{_≤ℤ_}
 use borrow.Author.Tests.{le-ltb, eq-eqb}
-use Rattle.finite.specs.Range.{sum, every, least, tableFrom, rowsFrom, total, count}
+use Rattle.finite.specs.Range.{sum, every, least, greatest, tableFrom, rowsFrom, total, count}
 use Rattle.finite.proofs.Order.{scale-reflects, ≤ℤ-antisym}
 use Rattle.finite.proofs.Table.{grid-cong, grid-const}
 use Rattle.finite.proofs.Tests.{total-cong, count-cong}
@@ -134,7 +134,8 @@ unfolding regionCause parse wellFormed
 bad-tree W H w h = rw (w, h)
 
 one-on-eight : OneOnEight
-unfolding leastOutcome activityOutcome activityCause regionCause parse wellFormed levels levelAt least visits start
+unfolding leastOutcome activityOutcome activityCause regionCause parse wellFormed levels levelAt least greatest visits
+    start
 one-on-eight = (
   refl,
   λ L out h e. rw (le-ltb 3 L h, eq-eqb (length out) (places 8 8 L) e),

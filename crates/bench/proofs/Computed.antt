@@ -1,7 +1,7 @@
 -- The definitions at work: the bench cases that compute outright and the further ones, so that a reader can hold them
 -- to document 01.
 use mathlib.Core.Path.{refl}
-use Rattle.finite.specs.Range.{sum, every, count, total, least, tableFrom, joined, rowsFrom}
+use Rattle.finite.specs.Range.{sum, every, count, total, least, greatest, tableFrom, joined, rowsFrom}
 use Rattle.surface.specs.Sheet.{eighths}
 use Rattle.surface.specs.Quadtree.{bytes, parse, wellFormed, levelAt, regionTree, visits}
 use Rattle.surface.specs.Support.{leastUnder, activeInRow, activeCount, activeBefore}
@@ -24,12 +24,12 @@ use Rattle.bench.specs.Bench.{Inserted, Visited, TwoByOne}
 use Rattle.bench.specs.Cases.{InsideCell, Children, Shortest, Longest, EastBox, LimitFirst, NewTree, Activity}
 use Rattle.bench.specs.Cases.{Sets, Fresh, LevelZero, SetsFine, Declined, LowestGiven, Costs, Files}
 use Rattle.bench.specs.Cases.{CountedFiles, SavedFiles, NotedFiles, NotesRefused, SavedNotes, Heads}
-use Rattle.bench.specs.Cases.{ContentsFirst}
+use Rattle.bench.specs.Cases.{ContentsFirst, GreatestLevels}
 
 -- ---- of the bench sheet
 
 pub visited : Visited
-unfolding leastOutcome regionCause parse wellFormed levels levelAt least visits
+unfolding leastOutcome regionCause parse wellFormed levels levelAt least greatest visits
 visited = refl
 
 pub inserted : Inserted
@@ -43,7 +43,7 @@ pub two-by-one : TwoByOne
 unfolding insertOutcome insertCause newTree newCoefficients bytes regionTree carried weight sum tableCause regionCause
     withinLimits passiveZero every leastUnder least eighths levels levelAt parse wellFormed start sliceFrom
     coefficients
-    tableFrom rowsFrom leastOutcome visits
+    tableFrom rowsFrom leastOutcome greatest visits
 two-by-one = (refl, refl)
 
 -- ---- further cases
@@ -53,8 +53,12 @@ unfolding patchReading patch sum cellOf piece leastUnder least eighths levels le
 inside-cell = refl
 
 pub children : Children
-unfolding leastOutcome regionCause parse wellFormed levels levelAt least visits
+unfolding leastOutcome regionCause parse wellFormed levels levelAt least greatest visits
 children = (refl, refl, refl)
+
+pub greatest-levels : GreatestLevels
+unfolding leastOutcome regionCause parse wellFormed levels levelAt least greatest visits
+greatest-levels = (refl, refl, refl)
 
 pub shortest : Shortest
 unfolding bytes regionTree

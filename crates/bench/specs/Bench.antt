@@ -147,16 +147,16 @@ AllOfLevelOne =
     × ActivityIs 1 1 refined 2 (replicate 49 0)
     × ActivityIs 1 1 refined 3 (replicate 121 0)
 
--- "That tree, box 0,0 to 4,4: least level 1, 4 nodes"
+-- "That tree, box 0,0 to 4,4: least level 1, 4 nodes"; by document 02 the greatest level too, here and below
 abbrev pub Visited : Type 0
-Visited = leastOutcome 1 1 refined (box 0 0 4 4) ≡ gives (record { level = 1; visited = 4 })
+Visited = leastOutcome 1 1 refined (box 0 0 4 4) ≡ gives (record { least = 1; greatest = 1; visited = 4 })
 
 -- "2 by 1, the same box": the insertion; "Box 0,0 to 8,4: least level 0, 5 nodes"
 abbrev pub TwoByOne : Type 0
 TwoByOne =
     (insertOutcome 2 1 flat flat700 (box 0 0 4 4) 1 (replicate 13 9) (replicate 341 (pos 9))
     ≡ record { result = gives 13; tree = refined; numbers = level700 })
-    × (leastOutcome 2 1 refined (box 0 0 8 4) ≡ gives (record { level = 0; visited = 5 }))
+    × (leastOutcome 2 1 refined (box 0 0 8 4) ≡ gives (record { least = 0; greatest = 1; visited = 5 }))
 
 -- "16 active at level 0, 10 at level 1": the last four of each row and the first two, and none of levels 2 and 3
 abbrev pub SixteenAndTen : Type 0
@@ -196,7 +196,7 @@ Trees =
 -- "on 8 by 8 accepted": by the least level, by activity at every level, and in a table
 abbrev pub OneOnEight : Type 0
 OneOnEight =
-    (leastOutcome 8 8 (1 ∷ []) (box 0 0 4 4) ≡ gives (record { level = 1; visited = 1 }))
+    (leastOutcome 8 8 (1 ∷ []) (box 0 0 4 4) ≡ gives (record { least = 1; greatest = 1; visited = 1 }))
     × ((L : ℕ) (out : List ℕ) → L ≤ 3 → length out ≡ places 8 8 L
     → activityOutcome 8 8 (1 ∷ []) L out .result ≡ gives tt)
     × Acceptable 8 8 (1 ∷ []) (zeros 6196)

@@ -33,9 +33,17 @@ mixed = 4 ∷ 0 ∷ 4 ∷ 0 ∷ 0 ∷ 1 ∷ 0 ∷ 2 ∷ 3 ∷ []
 -- The north-west child alone; all nine nodes, with no early stop at level 0; a box that squares only touch.
 abbrev pub Children : Type 0
 Children =
-    (leastOutcome 8 8 mixed (box 0 16 16 32) ≡ gives (record { level = 2; visited = 2 }))
-    × (leastOutcome 8 8 mixed (box 0 0 32 32) ≡ gives (record { level = 0; visited = 9 }))
-    × (leastOutcome 2 2 refined (box 4 0 8 8) ≡ gives (record { level = 0; visited = 5 }))
+    (leastOutcome 8 8 mixed (box 0 16 16 32) ≡ gives (record { least = 2; greatest = 2; visited = 2 }))
+    × (leastOutcome 8 8 mixed (box 0 0 32 32) ≡ gives (record { least = 0; greatest = 3; visited = 9 }))
+    × (leastOutcome 2 2 refined (box 4 0 8 8) ≡ gives (record { least = 0; greatest = 0; visited = 5 }))
+
+-- "the greatest level under the box": the western half, with level 3 beside it; the one leaf of level 1 alone; that
+-- leaf and the south-western one, with levels 2 and 3 touched.
+abbrev pub GreatestLevels : Type 0
+GreatestLevels =
+    (leastOutcome 8 8 mixed (box 0 0 16 32) ≡ gives (record { least = 0; greatest = 2; visited = 3 }))
+    × (leastOutcome 8 8 mixed (box 17 9 18 10) ≡ gives (record { least = 1; greatest = 1; visited = 3 }))
+    × (leastOutcome 8 8 mixed (box 15 15 17 16) ≡ gives (record { least = 0; greatest = 1; visited = 4 }))
 
 -- "of 1 to 1,365 bytes": both occur, on a sheet of one level and on one whose neighbours all differ.
 abbrev pub Shortest : Type 0

@@ -3,23 +3,12 @@ use mathlib.Core.Bool.{Bool, true, false, _&&_}
 use mathlib.Core.Path.{_≡_, sym, ap, _∙_}
 use Prim.Native.Nat.{ℕ, _+_, _≤_, _<_}
 use native.Mathlib.Omega.{arith}
-use lib.Dec.{leb, ltb}
-use borrow.Author.Tests.{leb-true, ltb-true, le-leb, lt-ltb}
-use Rattle.finite.proofs.Tests.{both, and-intro, lts-intro}
+use lib.Dec.{leb}
+use borrow.Author.Tests.{leb-true}
+use Rattle.finite.proofs.Tests.{both, and-intro, lts-intro, between, between-true, between-intro}
 use Rattle.surface.specs.Sheet.{Box}
 use Rattle.surface.specs.Support.{inBox}
 use Rattle.boxes.specs.Boxes.{overlap, sharesArea, among, liesIn}
-
--- along one direction, q is one of the places lo to hi - 1
-abbrev pub between : ℕ → ℕ → ℕ → Bool
-between lo hi q = leb lo q && ltb q hi
-
-pub between-true : (lo hi q : ℕ) → between lo hi q ≡ true → (lo ≤ q) × (q < hi)
-between-true lo hi q e =
-    (leb-true lo q (both (leb lo q) (ltb q hi) e .0), ltb-true q hi (both (leb lo q) (ltb q hi) e .1))
-
-pub between-intro : (lo hi q : ℕ) → lo ≤ q → q < hi → between lo hi q ≡ true
-between-intro lo hi q l h = and-intro (leb lo q) (ltb q hi) (le-leb lo q l) (lt-ltb q hi h)
 
 shares : (lo hi x n q : ℕ) → x ≤ q → q < x + n → between lo hi q ≡ true → overlap lo hi x n ≡ true
 shares lo hi x n q l u e =

@@ -1,6 +1,8 @@
-// A box in whole quarters, the squares that share area with it, and those that lie in it.
+// A box in whole quarters, the squares that share area with it, and those that lie in it; the quarter that holds a
+// point.
 ghost use mathlib.Core.Path.{_≡_};
-ghost use Prim.Native.Nat.{_+_, _≤_};
+ghost use Prim.Native.Nat.{_+_, _≤_, _<_};
+ghost use Rattle.surface.specs.Sheet.{quarterOf};
 ghost use Rattle.boxes.specs.Boxes.{boxAt, overlap, sharesArea, among, liesIn};
 
 // A box, low corner first.
@@ -41,4 +43,15 @@ pub fn holds(x: usize, y: usize, side: usize, corners: &[usize; 4]) -> bool
     ensures { λ r. ⌜ r ≡ liesIn x y side (boxAt (now (corners .entry))) ⌝ }
 {
     within(corners[0], corners[2], x, side) && within(corners[1], corners[3], y, side)
+}
+
+// The quarter that holds a point, along a side of n cells of level 0, at u steps: on a shared edge the one of greater
+// u, at the far edge the last.
+pub fn quarter_of(n: usize, u: usize) -> usize
+    requires { ⌜ (0 < n) × (n ≤ 8) ⌝ }
+    ensures { λ r. ⌜ (r ≡ quarterOf n u) × (r < 32) ⌝ }
+{
+    let q = u / 32;
+    let last = 4 * n - 1;
+    if q < last { q } else { last }
 }

@@ -10,4 +10,5 @@ pub mod Tests
 pub mod Weighted
 pub mod Signed
 pub mod Minima
+pub mod Maxima
 pub mod Written

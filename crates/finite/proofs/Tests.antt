@@ -6,8 +6,8 @@ use Prim.Native.Nat.{ℕ, zero, suc, _+_, _≤_, _<_}
 use native.Mathlib.Nat.{le-step, lt-suc-self, not-suc-le-zero, le-refl}
 use native.Mathlib.Decide.{decLt}
 use native.Mathlib.Omega.{arith}
-use lib.Dec.{ltb}
-use borrow.Author.Tests.{ltb-true, lt-ltb}
+use lib.Dec.{leb, ltb}
+use borrow.Author.Tests.{leb-true, ltb-true, le-leb, lt-ltb}
 use Rattle.finite.specs.Range.{every, every2, count, total}
 
 -- two tests are equal when each holds as the other does
@@ -31,6 +31,17 @@ lts-true a b c d e = (ltb-true a b (both (ltb a b) (ltb c d) e .0), ltb-true c d
 
 pub lts-intro : (a b c d : ℕ) → a < b → c < d → (ltb a b && ltb c d) ≡ true
 lts-intro a b c d p q = and-intro (ltb a b) (ltb c d) (lt-ltb a b p) (lt-ltb c d q)
+
+-- q is one of the numbers lo to hi - 1
+abbrev pub between : ℕ → ℕ → ℕ → Bool
+between lo hi q = leb lo q && ltb q hi
+
+pub between-true : (lo hi q : ℕ) → between lo hi q ≡ true → (lo ≤ q) × (q < hi)
+between-true lo hi q e =
+    (leb-true lo q (both (leb lo q) (ltb q hi) e .0), ltb-true q hi (both (leb lo q) (ltb q hi) e .1))
+
+pub between-intro : (lo hi q : ℕ) → lo ≤ q → q < hi → between lo hi q ≡ true
+between-intro lo hi q l h = and-intro (leb lo q) (ltb q hi) (le-leb lo q l) (lt-ltb q hi h)
 
 pub pick : (b : Bool) (P : Bool → Type 0) → (b ≡ true → P true) → (b ≡ false → P false) → P b
 pick true P t f = t refl

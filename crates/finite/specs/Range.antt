@@ -1,8 +1,8 @@
--- Sums, tests, minima, counts, tables and joined lists over the numbers 0 to n - 1, and over a grid of n columns and
--- m rows.
+-- Sums, tests, minima, maxima, counts, tables and joined lists over the numbers 0 to n - 1, and over a grid of n
+-- columns and m rows.
 use mathlib.Core.Bool.{Bool, true, _&&_, cond}
 use mathlib.Core.List.{List, [], _∷_, _++_}
-use Prim.Native.Nat.{ℕ, zero, suc, _+_, min}
+use Prim.Native.Nat.{ℕ, zero, suc, _+_, min, max}
 use lib.IntN.{ℤ, pos, _+ℤ_}
 
 -- f 0 + ... + f (n - 1)
@@ -37,6 +37,11 @@ total (suc n) f = total n f + f n
 unfoldable pub least : ℕ → ℕ → (ℕ → ℕ) → ℕ
 least top zero f = top
 least top (suc n) f = min (least top n f) (f n)
+
+-- the greatest of 0, f 0, ..., f (n - 1)
+unfoldable pub greatest : ℕ → (ℕ → ℕ) → ℕ
+greatest zero f = 0
+greatest (suc n) f = max (greatest n f) (f n)
 
 module _ {A : Type 0} where
   -- the list f i, f (i + 1), ..., of n elements

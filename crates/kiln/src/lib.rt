@@ -13,7 +13,8 @@ ghost use Rattle.answers.specs.Codes.{SliceWritten, TableWritten};
 ghost use Rattle.demands.specs.LinkedPromises.{KilnInsertPromise, KilnExactPromise};
 ghost use Rattle.demands.specs.FilePromises.{KilnReadPromise, KilnBenchPromise, KilnWritePromise};
 
-// The least level under a box: `level` receives it, `visited` the number of tree nodes visited.
+// The levels under a box: `least` receives the least and `greatest` the greatest, `visited` the number of tree nodes
+// visited.
 #[no_mangle]
 pub extern "C" fn kiln_least_level(
     w: usize,
@@ -23,20 +24,24 @@ pub extern "C" fn kiln_least_level(
     v0: usize,
     u1: usize,
     v1: usize,
-    level: &mut u8,
+    least: &mut u8,
+    greatest: &mut u8,
     visited: &mut usize,
 ) -> u8
     ensures { λ r. ⌜ LeastTold
         (leastOutcome w h (now (tree .entry)) (record { u0 = u0; v0 = v0; u1 = u1; v1 = v1 })) r
-        (now (level .entry)) (now (level .exit)) (now (visited .entry)) (now (visited .exit)) ⌝ }
+        (now (least .entry)) (now (least .exit)) (now (greatest .entry)) (now (greatest .exit))
+        (now (visited .entry)) (now (visited .exit)) ⌝ }
 {
     let r = query::least_level(w, h, tree, u0, v0, u1, v1);
     match r {
-        answers::Least::Level {
-            level: l,
+        answers::Least::Levels {
+            least: l,
+            greatest: g,
             visited: n,
         } => {
-            *level = l;
+            *least = l;
+            *greatest = g;
             *visited = n;
             0
         }

@@ -1,2 +1,3 @@
+pub mod Forests
 pub mod LevelLaws
 pub mod WalkLaws

@@ -2,26 +2,28 @@
 use mathlib.Core.Path.{_≡_, refl, sym, ap, ap₂, _∙_}
 use mathlib.Core.Bool.{Bool, true, cond}
 use mathlib.Core.List.{List}
-use Prim.Native.Nat.{ℕ, zero, suc, _+_, _-_, _*_, _%_, _^_, _≤_, _<_}
-use native.Mathlib.Nat.{le-trans, mul-le-mul-left, pow-le-pow-right}
+use Prim.Native.Nat.{ℕ, zero, suc, _+_, _-_, _*_, _%_, _^_, _≤_, _<_, min}
+use native.Mathlib.Nat.{le-trans, add-mul, mul-comm, mul-le-mul-left, pow-le-pow-right}
 use native.Mathlib.Omega.{arith}
 use borrow.Author.Tests.{le-leb}
-use lib.Dec.{leb, lit≤}
+use lib.Dec.{leb}
 use lib.IntN.{ℤ, pos, _*ℤ_}
-use lib.ListN.{length}
+use lib.ListN.{length, getD}
+use Rattle.finite.proofs.Bits.{bit-small}
 use Rattle.finite.proofs.Sum.{sum2-cong}
 use Rattle.finite.proofs.Tests.{and-intro}
-use Rattle.surface.specs.Sheet.{eighths, onSheet}
+use Rattle.surface.specs.Sheet.{steps, quarterOf, onSheet}
 use Rattle.surface.specs.Spline.{cellOf, piece}
 use Rattle.surface.specs.Support.{leastUnder, inRegion}
-use Rattle.surface.specs.Patch.{subdivided, patch, patchReading}
+use Rattle.surface.specs.Patch.{subdivided, patch, stopLevel}
 use Rattle.surface.specs.Table.{levels, coefficients, limit, slots, Acceptable, tableReading}
 use Rattle.surface.proofs.SplineCell.{cell-inside}
 use Rattle.surface.proofs.PatchReading.{subdivided-cong}
 use Rattle.surface.proofs.TableLaws.{sound, sides}
-use Rattle.surface.proofs.Demands.{patch-evaluates}
+use Rattle.surface.proofs.Greatest.{stop-level}
+use Rattle.surface.proofs.Demands.{patch-evaluates, any-level}
 use Rattle.rows.specs.Rows.{levelsOf, Nested}
-use Rattle.rows.proofs.RowLaws.{rows-nested, rows-least}
+use Rattle.rows.proofs.RowLaws.{rows-nested, rows-least, level-rows}
 use Rattle.patch.specs.Patches.{entry, Bounded, Evaluated}
 use Rattle.point.specs.OfTable.{OfTable}
 use Rattle.point.specs.Patches.{PatchAt}
@@ -68,12 +70,28 @@ patch-cong W H f g coef u v e (suc L) k l hk hl =
     (subdivided-cong (a % 2) (b % 2) (patch W H f coef u v L) (patch W H g coef u v L) (omega arith) (omega arith)
     (patch-cong W H f g coef u v e L) k l hk hl)
 
+-- a quarter square lies in at most three regions, so that a reading stops at level 3 at the latest
+pub stop-small : (W H u v : ℕ) (rows : List ℕ) → 0 < W → 0 < H → stopLevel W H (levelsOf rows) u v ≤ 3
+stop-small W H u v rows pW pH =
+    let q = quarterOf W u in
+    let r = quarterOf H v in
+    rw (stop-level W H (levelsOf rows) u v pW pH)
+    (omega (
+      arith,
+      bit-small (getD rows (0 * 32 + r) 0) q,
+      bit-small (getD rows (1 * 32 + r) 0) q,
+      bit-small (getD rows (2 * 32 + r) 0) q,
+    ))
+
 -- ---- an acceptable table
 
--- a point lies at most 16 steps into its level 3 cell, at the far edge too
-pub steps-left : (n u a : ℕ) → 0 < n → u ≤ 128 * n → a ≡ cellOf n 3 u → (16 * a ≤ u) × (u - 16 * a ≤ 16)
-unfolding eighths
-steps-left n u a p h e = let i = cell-inside n 3 u p h (lit≤ tt) in (omega arith, omega arith)
+-- a point lies at most the steps of a cell into its cell, at the far edge too
+pub steps-left : (n L u a s : ℕ) → 0 < n → u ≤ 128 * n → L ≤ 3 → a ≡ cellOf n L u → s ≡ steps L
+    → (s * a ≤ u) × (u - s * a ≤ s)
+steps-left n L u a s p h l e es =
+    let i = cell-inside n L u p h l in
+    let same : s * a ≡ cellOf n L u * steps L = ap₂ _*_ es e ∙ mul-comm (steps L) (cellOf n L u) in
+    (omega (arith, i .1, same), omega (arith, i .2, same, add-mul (cellOf n L u) 1 (steps L), es))
 
 -- a point of the sheet, and a tree that the rows are of and with which the table is acceptable
 abbrev pub Readable : ℕ → ℕ → List ℕ → List ℤ → ℕ → ℕ → Type 0
@@ -122,19 +140,33 @@ module _ (W H : ℕ) (rows : List ℕ) (cs : List ℤ) (u v : ℕ) (given : Read
       let bounded = patch-bounded (M - 1) 131072000 p (omega arith) (mul-le-mul-left 32000 power) at in
       (s .0, s .1, s .2, s .3, hM, h3, s .4, s .5, s .6, bounded, at, rw (given .2 .1) (rows-nested (levels t)))
 
-  -- the value of the level 3 patch is the reading
-  pub reading-of : (a b : ℕ) (p : List (List ℤ)) (x : ℤ) → a ≡ cellOf W 3 u → b ≡ cellOf H 3 v
-      → PatchAt W H rows cs u v 3 p → Evaluated 16 p (u - 16 * a) (v - 16 * b) x
-      → x ≡ tableReading W H (given .2 .0) cs u v
-  unfolding patchReading eighths
-  reading-of a b p x ea eb at e =
-      let r = u - cellOf W 3 u * 16 in
-      let s = v - cellOf H 3 v * 16 in
-      let er : u - 16 * a ≡ r = omega arith in
-      let es : v - 16 * b ≡ s = omega arith in
+  -- the level at which a reading stops by the rows is that by the tree
+  pub stop-tree : stopLevel W H (levelsOf rows) u v ≡ stopLevel W H (levels t) u v
+  stop-tree =
+      let n = sides (sound W H t cs acc) in
+      let q = quarterOf W u in
+      let r = quarterOf H v in
+      stop-level W H (levelsOf rows) u v (n .0) (n .2)
+      ∙ ap (λ m. levelsOf m q r) (given .2 .1)
+      ∙ level-rows t q r (omega (arith, n .0, n .1)) (omega (arith, n .2, n .3))
+      ∙ sym (stop-level W H (levels t) u v (n .0) (n .2))
+
+  -- the value of the patch of that level is the reading
+  pub reading-of : (L a b s : ℕ) (p : List (List ℤ)) (x : ℤ) → L ≡ stopLevel W H (levelsOf rows) u v → s ≡ steps L
+      → a ≡ cellOf W L u → b ≡ cellOf H L v → PatchAt W H rows cs u v L p → Evaluated s p (u - s * a) (v - s * b) x
+      → x ≡ tableReading W H t cs u v
+  reading-of L a b s p x el es ea eb at e =
+      let n = sides (sound W H t cs acc) in
+      let r = u - cellOf W L u * steps L in
+      let z = v - cellOf H L v * steps L in
+      let er : u - s * a ≡ r = ap (λ m. u - m) (ap₂ _*_ es ea ∙ mul-comm (steps L) (cellOf W L u)) in
+      let ez : v - s * b ≡ z = ap (λ m. v - m) (ap₂ _*_ es eb ∙ mul-comm (steps L) (cellOf H L v)) in
+      let low : L ≤ 3 = rw el (stop-small W H u v rows (n .0) (n .2)) in
+      let stops : min (stopLevel W H (levels t) u v) 3 ≤ L = omega (arith, el ∙ stop-tree) in
       e
-      ∙ sum2-cong 4 4 (λ k l. pos (piece k (u - 16 * a) 16 * piece l (v - 16 * b) 16) *ℤ entry p k l)
-      (λ k l. pos (piece k r 16 * piece l s 16) *ℤ patch W H (levels t) (coefficients W H cs) u v 3 k l)
-      (λ k l hk hl. ap₂ (λ x y. pos (piece k x 16 * piece l y 16) *ℤ entry p k l) er es
-      ∙ ap (λ z. pos (piece k r 16 * piece l s 16) *ℤ z) (at k l hk hl ∙ by-tree 3 k l hk hl))
-      ∙ sym (patch-evaluates W H t cs acc u v on-sheet .0)
+      ∙ sum2-cong 4 4 (λ k l. pos (piece k (u - s * a) s * piece l (v - s * b) s) *ℤ entry p k l)
+      (λ k l. pos (piece k r (steps L) * piece l z (steps L))
+      *ℤ patch W H (levels t) (coefficients W H cs) u v L k l)
+      (λ k l hk hl. ap₂ (λ m c. pos m *ℤ c) (ap₂ _*_ (ap₂ (piece k) er es) (ap₂ (piece l) ez es))
+      (at k l hk hl ∙ by-tree L k l hk hl))
+      ∙ sym (any-level W H (levels t) (coefficients W H cs) u v (n .0) (n .2) (given .0) (given .1) L low stops .1)

@@ -1,8 +1,9 @@
 // The exact reading of an acceptable table at a point, from its regions as rows of bits and its coefficients: a
-// patch of sixteen, taken at level 0 and subdivided three times.
+// patch of sixteen, taken at level 0 and subdivided up to the level of the quarter square that holds the point.
 pub mod cell;
 pub mod own;
 pub mod step;
+pub mod stop;
 
 ghost use mathlib.Core.Path.{_≡_};
 ghost use mathlib.Core.List.{List};
@@ -17,11 +18,10 @@ pub fn reading_at(numbers: &[i64], rows: &[u32; 96], w: usize, h: usize, u: usiz
     ensures { λ r. ⌜ ((t : List ℕ) → now (rows .entry) ≡ levelRows t → Acceptable w h t (now (numbers .entry))
         → r ≡ tableReading w h t (now (numbers .entry)) u v) ⌝ }
 {
-    let p0 = step::coarsest(numbers, w, h, u, v);
-    let p1 = step::finer(p0, numbers, rows, w, h, 1, u, v);
-    let p2 = step::finer(p1, numbers, rows, w, h, 2, u, v);
-    let p3 = step::finer(p2, numbers, rows, w, h, 3, u, v);
-    let a = cell::cell_of(w, 3, u);
-    let b = cell::cell_of(h, 3, v);
-    patch::evaluate(p3, 16, u - 16 * a, v - 16 * b)
+    let level = stop::level_of(rows, w, h, u, v);
+    let p = stop::patch_of(numbers, rows, w, h, u, v, level);
+    let a = cell::cell_of(w, level, u);
+    let b = cell::cell_of(h, level, v);
+    let steps = 16 * activity::eighths(level);
+    patch::evaluate(p, steps, u - steps * a, v - steps * b)
 }

@@ -1,9 +1,10 @@
-// The calls that ask a region tree: the least level under a box, and the activity of a level.
+// The calls that ask a region tree: the levels under a box, and the activity of a level.
 ghost use mathlib.Core.Path.{_≡_};
 ghost use Rattle.surface.specs.Calls.{leastOutcome, activityOutcome, SliceMeets};
 ghost use Rattle.answers.specs.Answers.{leastAnswer, outcomeAnswer};
 
-// The least level under the box with corners (u0, v0) and (u1, v1), in quarters, with the nodes visited.
+// The least and the greatest level under the box with corners (u0, v0) and (u1, v1), in quarters, with the nodes
+// visited.
 pub fn least_level(
     w: usize,
     h: usize,
@@ -27,8 +28,9 @@ pub fn least_level(
         return answers::Least::Refused(past);
     }
     let found = leastlevel::under(tree, w, h, b);
-    answers::Least::Level {
-        level: found.least as u8,
+    answers::Least::Levels {
+        least: found.least as u8,
+        greatest: found.greatest as u8,
         visited: found.visited,
     }
 }

@@ -8,12 +8,12 @@ use native.Mathlib.Decide.{decLt}
 use native.Mathlib.Omega.{arith}
 use borrow.Author.Tests.{lt-ltb, le-ltb}
 use lib.ListN.{length}
-use Rattle.finite.proofs.Tests.{both, lts-true, pick}
+use Rattle.finite.proofs.Tests.{both, lts-true, pick, between, between-intro}
 use Rattle.surface.specs.Sheet.{Box}
 use Rattle.surface.specs.Support.{inBox}
 use Rattle.surface.specs.Carry.{raised}
 use Rattle.boxes.specs.Boxes.{overlap, sharesArea}
-use Rattle.boxes.proofs.BoxLaws.{between, between-intro, box-shares}
+use Rattle.boxes.proofs.BoxLaws.{box-shares}
 use Rattle.rows.specs.Rows.{inRows, levelsOf, Nested, above, inSpan, Painted, Raised}
 use Rattle.rows.proofs.Spans.{past-span, span-true}
 use Rattle.rows.proofs.RowLaws.{fourLevels, painted-four}

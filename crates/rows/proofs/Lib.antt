@@ -1,5 +1,4 @@
 pub mod Spans
 pub mod MaskLaws
 pub mod NoneLaws
-pub mod SmallLevels
 pub mod RowLaws

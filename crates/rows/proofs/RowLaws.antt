@@ -19,8 +19,8 @@ use Rattle.surface.specs.Sheet.{functions}
 use Rattle.surface.specs.Support.{leastUnder, activeInRow, activeCount}
 use Rattle.surface.specs.Table.{levels}
 use Rattle.surface.proofs.Least.{leastUnder-cong}
+use Rattle.surface.proofs.SmallLevels.{levels-small}
 use Rattle.rows.specs.Rows.{inRows, levelsOf, Nested, above, rowsOf, levelRows, inSpan, Painted, Fit, Raised}
-use Rattle.rows.proofs.SmallLevels.{levels-small}
 use Rattle.rows.proofs.Spans.{in-span, before-span, past-span, join-quarters}
 
 -- ---- a span of ones

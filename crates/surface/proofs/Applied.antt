@@ -6,10 +6,12 @@ use Prim.Native.Nat.{ℕ, _+_, _*_, _^_}
 use lib.IntN.{pos, negℤ, _-ℤ_}
 use lib.Dec.{leb, ltb}
 use lib.ListN.{drop, replicate}
-use Rattle.finite.specs.Range.{sum, every, count, total, least, tableFrom, joined}
-use Rattle.surface.specs.Sheet.{Box, eighths}
+use Rattle.finite.specs.Range.{sum, every, count, total, least, greatest, tableFrom, joined}
+use Rattle.surface.specs.Sheet.{Box, eighths, quarterOf}
 use Rattle.surface.specs.Quadtree.{leaf, split, bytes, parse, wellFormed, levelAt, regionTree, visits}
 use Rattle.surface.specs.Support.{leastUnder, active, activeInRow, activeCount, activeBefore}
+use Rattle.surface.specs.Support.{leastWhere, greatestWhere, inBox}
+use Rattle.surface.specs.Patch.{stopLevel}
 use Rattle.surface.specs.Spline.{cellOf, piece, splineAt}
 use Rattle.surface.specs.Truncation.{weight, truncated}
 use Rattle.surface.specs.Carry.{raised, carried}
@@ -84,6 +86,36 @@ corner-tree = refl
 pub visited-corner : visits corner 3 0 0 (split (leaf 1) (leaf 0) (leaf 0) (leaf 0)) ≡ 2
 unfolding visits
 visited-corner = refl
+
+-- for the whole square all five nodes are, though the first child has level 0
+pub no-early-stop : visits (record { u0 = 0; v0 = 0; u1 = 8; v1 = 8 }) 3 0 0 (split (leaf 0) (leaf 1) (leaf 0) (leaf 0))
+    ≡ 5
+unfolding visits levelAt
+no-early-stop = refl
+
+-- ---- the greatest level
+
+-- Under the sheet's westernmost column of quarter squares lies level 1 alone, though level 3 lies beside it; under the
+-- four at the sheet's corner lie 1 and 3.
+pub under-boxes : (greatestWhere 1 1 islet (inBox (record { u0 = 0; v0 = 0; u1 = 1; v1 = 4 })) ≡ 1)
+    × (greatestWhere 1 1 islet (inBox (record { u0 = 0; v0 = 0; u1 = 2; v1 = 2 })) ≡ 3)
+    × (leastWhere 1 1 islet (inBox (record { u0 = 0; v0 = 0; u1 = 2; v1 = 2 })) ≡ 1)
+unfolding greatest least
+under-boxes = (refl, refl, refl)
+
+-- "on a shared edge the one of greater u or v, at a far edge the last": before, on and after the edge of two quarters
+pub shared-edge : tableFrom 31 3 (λ u. quarterOf 1 u) ≡ 0 ∷ 1 ∷ 1 ∷ []
+unfolding tableFrom
+shared-edge = refl
+
+pub far-quarter : tableFrom 127 2 (λ u. quarterOf 1 u) ≡ 3 ∷ 3 ∷ []
+unfolding tableFrom
+far-quarter = refl
+
+-- so a reading stops at level 3 on the edge towards the middle, and at level 1 before it and at the far edge
+pub stops : (stopLevel 1 1 islet 32 32 ≡ 3) × (stopLevel 1 1 islet 31 32 ≡ 1) × (stopLevel 1 1 islet 128 64 ≡ 1)
+unfolding greatest
+stops = (refl, refl, refl)
 
 -- ---- rounding
 

@@ -1,47 +1,48 @@
 -- The demands: each statement of specs/Demands.antt, proved. (Demand 1 of the outcomes is in Refusals.)
-use mathlib.Core.Path.{_≡_, refl, sym, ap, _∙_, subst}
-use mathlib.Core.Bool.{Bool, true, false, not, _&&_, cond}
+use mathlib.Core.Path.{_≡_, refl, sym, ap, ap₂, _∙_, subst}
+use mathlib.Core.Bool.{Bool, true, false, cond}
 use mathlib.Core.List.{List}
-use Prim.Native.Nat.{ℕ, _+_, _*_, _≤_, max}
+use Prim.Native.Nat.{ℕ, _+_, _*_, _≤_, min, max}
 use native.Mathlib.Omega.{arith}
 use lib.IntN.{ℤ, natAbs, _+ℤ_, _*ℤ_}
 use lib.Dec.{ltb}
 use lib.ListN.{getD}
-use Rattle.surface.specs.Sheet.{goodSide, functions, onSheet}
+use Rattle.surface.specs.Sheet.{functions, quarterOf, quarterBox, onSheet}
+use Rattle.surface.specs.Quadtree.{visits}
 use Rattle.surface.specs.Support.{active, inBox}
 use Rattle.surface.specs.Spline.{cellOf}
 use Rattle.surface.specs.Truncation.{D}
 use Rattle.surface.specs.Table.{cause, _orElse_, levels, place, coefficients, limit, tableCause}
 use Rattle.surface.specs.Table.{Acceptable, tableReading}
-use Rattle.surface.specs.Calls.{afterwards, lengthCause}
+use Rattle.surface.specs.Calls.{answer, afterwards, lengthCause, boxCause, leastOutcome}
 use Rattle.surface.specs.Demands.{SelectionRule, InsertionRaises, OneTree, LinearReadings, Bracketed}
 use Rattle.surface.specs.Demands.{BracketedReadings, afterAll, RefinementMovesNoReading, ReadingFits}
-use Rattle.surface.specs.Demands.{PatchEvaluates, AnyLevel, TwoScale}
-use Rattle.surface.proofs.TreeLevels.{levelAt-le}
+use Rattle.surface.specs.Demands.{PatchEvaluates, AnyLevel, DotTold, TwoScale}
+use Rattle.surface.proofs.SmallLevels.{levels-small}
 use Rattle.surface.proofs.SplineCell.{cell-inside}
 use Rattle.surface.proofs.TwoScaleSum.{two-scale-sum, whole-step}
 use Rattle.surface.proofs.Selection.{selection}
 use Rattle.surface.proofs.SupportLaws.{holds-positive, cell-positive, untruncated}
 use Rattle.surface.specs.Demands.{SupportIsWhereNotZero, Untruncated}
-use Rattle.surface.proofs.TableLaws.{good-side, formed-tree, levels-of}
+use Rattle.surface.proofs.TableLaws.{regions-good}
 use Rattle.surface.proofs.TableLaws.{sound, sides, place-in-slice}
 use Rattle.surface.proofs.Linear.{linear}
+use Rattle.surface.proofs.Greatest.{no-box-cause, stop-level, least-level}
 use Rattle.surface.proofs.AnyLevel.{level-reading}
 use Rattle.surface.proofs.PatchReading.{patch-carried, evaluated-reading, patch-reading}
 use Rattle.surface.proofs.Insertion.{carried-fits, new-levels}
 use Rattle.surface.specs.Calls.{exactOutcome, readingCause, pointCause, activityOutcome, activityCause}
 use Rattle.surface.specs.Calls.{activityBytes}
-use Rattle.surface.specs.Table.{treeOf, formed, places, regionCause}
+use Rattle.surface.specs.Table.{treeOf, regionsOf, places, regionCause}
 use Rattle.surface.specs.Demands.{ReadingGiven}
 use Rattle.finite.specs.Range.{grid}
 use Rattle.finite.proofs.Table.{getD-grid}
-use Rattle.finite.proofs.Tests.{both}
 use borrow.Author.Tests.{ltb-false}
 use Rattle.surface.proofs.RefusalLaws.{answer-gives}
 use Rattle.surface.proofs.Around.{on-sheet, bracketed, fits}
 use Rattle.surface.proofs.OneTree.{same-tree, one-tree-for}
 use Rattle.surface.proofs.Steps.{accepted, inserted-cases, all-keep}
-use Rattle.surface.proofs.Causes.{orElse-none, cause-none, cause-off}
+use Rattle.surface.proofs.Causes.{orElse-none, none-orElse, cause-none, cause-off}
 
 -- the exact reading is given on acceptable tables and points of the sheet
 pub reading-given : ReadingGiven
@@ -56,21 +57,16 @@ reading-given W H t cs u v n = (
 
 -- "A function is active exactly when the selection rule of source document 003 makes it so."
 pub selection-rule : SelectionRule
-unfolding activityOutcome activityCause activityBytes regionCause
+unfolding activityOutcome activityCause activityBytes
 selection-rule W H t L out e a b ha hb =
-    let c1 = cause 1 (not (goodSide W && goodSide H)) in
-    let c2 = cause 2 (not (formed W H (treeOf t))) in
     let c8 = cause 8 (ltb 3 L) in
     let c16 = lengthCause (places W H L) out in
     let bits : ℕ → ℕ → ℕ = λ a b. cond (active W H (levels t) L a b) 1 0 in
     let z = answer-gives (regionCause W H t orElse c8 orElse c16) tt tt e .0 in
-    let e1 = orElse-none (c1 orElse c2) (c8 orElse c16) z in
-    let e2 = orElse-none c1 c2 (e1 .0) in
-    let good = both (goodSide W) (goodSide H) (cause-none 0 (goodSide W && goodSide H) (e2 .0)) in
-    let f = formed-tree W H t (cause-none 1 (formed W H (treeOf t)) (e2 .1)) in
+    let e1 = orElse-none (regionCause W H t) (c8 orElse c16) z in
+    let good = regions-good W H t (e1 .0) in
     let h3 : L ≤ 3 = ltb-false 3 L (cause-off 7 (ltb 3 L) (orElse-none c8 c16 (e1 .1) .0)) in
-    let s = selection W H (levels t) L a b (good-side W (good .0) .0) (good-side H (good .1) .0)
-    (λ q r hq hr. rw (levels-of W H t f q r) (levelAt-le W H 5 0 0 (f .tree) q r (f .shape))) h3 ha hb in
+    let s = selection W H (levels t) L a b (good .0) (good .2) (λ q r hq hr. levels-small t q r) h3 ha hb in
     let at : getD (afterwards (regionCause W H t orElse c8 orElse c16) out (grid (functions W L) (functions H L) bits))
     (b * functions W L + a) 0 ≡ bits a b =
     rw z (getD-grid (functions W L) (functions H L) bits a b 0 ha hb) in (
@@ -111,10 +107,27 @@ patch-evaluates W H t cs acc u v on =
           (carried-fits W H t cs s L (cellOf W L u + k) (cellOf H L v + l) hL (omega arith) (omega arith)),
     )
 
--- A level from that of the point's quarter square on gives the exact reading.
+-- Each level from the one at which a reading stops on gives the exact reading.
 pub any-level : AnyLevel
 any-level W H lev coef u v pW pH hu hv L hL h =
-    (level-reading W H lev coef u v pW pH hu hv L hL h, evaluated-reading W H lev coef u v pW pH hu hv L hL h)
+    let low = subst (λ g. min g 3 ≤ L) (stop-level W H lev u v pW pH) h in
+    (level-reading W H lev coef u v pW pH hu hv L hL low, evaluated-reading W H lev coef u v pW pH hu hv L hL low)
+
+-- The least level call gives that level under the quarter square that holds the point.
+pub dot-told : DotTold
+unfolding leastOutcome
+dot-told W H t u v e =
+    let (pW, _, pH, _, _) = regions-good W H t e in
+    let stop = stop-level W H (levels t) u v pW pH in
+    let low = levels-small t (quarterOf W u) (quarterOf H v) in
+    let visited = visits (quarterBox W H u v) 5 0 0 (regionsOf (treeOf t)) in (
+      ap₂ answer
+          (none-orElse (regionCause W H t) (boxCause W H (quarterBox W H u v)) e
+          (no-box-cause W H (levels t) u v pW pH))
+          (ap₂ (λ l m. record { least = l; greatest = m; visited = visited })
+          (least-level W H (levels t) u v pW pH low) stop),
+      stop,
+    )
 
 -- Supports end where the splines stop being 0.
 pub support-is-where-not-zero : SupportIsWhereNotZero

@@ -15,7 +15,8 @@ use Rattle.surface.specs.Support.{leastUnder, inBox}
 use Rattle.surface.specs.Carry.{carried, carriedOver}
 use Rattle.surface.specs.Table.{levels, coefficients, limit, tableReading}
 use Rattle.surface.specs.Calls.{newLevels, newTree, newCoefficients}
-use Rattle.surface.proofs.TreeLevels.{levelAt-le, levelAt-beyond}
+use Rattle.surface.proofs.TreeLevels.{levelAt-beyond}
+use Rattle.surface.proofs.SmallLevels.{levels-small}
 use Rattle.surface.proofs.OneTree.{region-formed, region-levels}
 use Rattle.surface.proofs.Least.{leastUnder-cong, leastUnder-raise}
 use Rattle.surface.proofs.TableLaws.{Formed, levels-of, Sound, sides, slice-length, slice-coefficient}
@@ -39,12 +40,9 @@ in-box b q r e =
 
 module _ (W H : ℕ) (t : List ℕ) (f : Formed W H t) (hW : W ≤ 8) (hH : H ≤ 8) (box : Box) (n : ℕ) (hn : n ≤ 3)
     (hu : box .u1 ≤ quarters W) (hv : box .v1 ≤ quarters H) where
-  old-le : (q r : ℕ) → levels t q r ≤ 3
-  old-le q r = rw (levels-of W H t f q r) (levelAt-le W H 5 0 0 (f .tree) q r (f .shape))
-
   new-le : (q r : ℕ) → newLevels t box n q r ≤ 3
   new-le q r = pick (inBox box q r) (λ b. cond b (max (levels t q r) n) (levels t q r) ≤ 3)
-      (λ _. omega (arith, old-le q r)) (λ _. old-le q r)
+      (λ _. omega (arith, levels-small t q r)) (λ _. levels-small t q r)
 
   -- beyond the sheet the old level is 0, and the box does not reach there
   new-beyond : (q r : ℕ) → q < 32 → r < 32 → (quarters W ≤ q) ⊎ (quarters H ≤ r) → newLevels t box n q r ≡ 0

@@ -3,12 +3,14 @@ pub mod Applied
 pub mod TreeForm
 pub mod TreeBytes
 pub mod TreeLevels
+pub mod SmallLevels
 pub mod SplineWeight
 pub mod SplinePiece
 pub mod SplineCell
 pub mod SplineTwoScale
 pub mod TwoScaleSum
 pub mod Least
+pub mod Greatest
 pub mod Parents
 pub mod Carried
 pub mod AnyLevel

@@ -51,6 +51,17 @@ pub levels-of : (W H : ℕ) (t : List ℕ) (f : Formed W H t) (q r : ℕ) → le
 unfolding levels
 levels-of W H t f q r = rw (f .whole)
 
+-- a sheet and a tree with no cause 1 or 2
+pub regions-good : (W H : ℕ) (t : List ℕ) → regionCause W H t ≡ 0
+    → (0 < W) × (W ≤ 8) × (0 < H) × (H ≤ 8) × (formed W H (treeOf t) ≡ true)
+unfolding regionCause
+regions-good W H t e =
+    let c = orElse-none (cause 1 (not (goodSide W && goodSide H))) (cause 2 (not (formed W H (treeOf t)))) e in
+    let g = both (goodSide W) (goodSide H) (cause-none 0 (goodSide W && goodSide H) (c .0)) in
+    let w = good-side W (g .0) in
+    let h = good-side H (g .1) in
+    (w .0, w .1, h .0, h .1, cause-none 1 (formed W H (treeOf t)) (c .1))
+
 -- ---- the coefficients' slice
 
 pub start-step : (W H L : ℕ) → start W H (suc L) ≡ start W H L + places W H L

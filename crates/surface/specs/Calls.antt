@@ -11,7 +11,7 @@ use lib.ListN.{length, drop, set}
 use Rattle.finite.specs.Range.{grid}
 use Rattle.surface.specs.Sheet.{Box, goodSide, cells, functions, quarters, onSheet}
 use Rattle.surface.specs.Quadtree.{bytes, regionTree, visits}
-use Rattle.surface.specs.Support.{active, leastWhere, inBox}
+use Rattle.surface.specs.Support.{active, leastWhere, greatestWhere, inBox}
 use Rattle.surface.specs.Truncation.{D}
 use Rattle.surface.specs.Carry.{raised, carriedOver}
 use Rattle.surface.specs.Table.{cause, _orElse_, treeOf, regionsOf, levels, places, slots, place, coefficients}
@@ -183,16 +183,22 @@ unfoldable pub activityOutcome : ℕ → ℕ → List ℕ → ℕ → List ℕ �
 activityOutcome W H t L out =
     done (activityCause W H t L out) tt (activityBytes W H t L) out
 
--- ---- least level: "comes with the number of tree nodes visited"
+-- ---- least level: "comes with the number of tree nodes visited"; document 02, Four: "also gives the greatest level
+-- under the box, from the same visited nodes and with the same count"
 
-pub record LeastLevel : Type 0 where
-  pub level : ℕ
+pub record LevelsUnder : Type 0 where
+  pub least : ℕ
+  pub greatest : ℕ
   pub visited : ℕ
 
-unfoldable pub leastOutcome : ℕ → ℕ → List ℕ → Box → Answer LeastLevel
+unfoldable pub leastOutcome : ℕ → ℕ → List ℕ → Box → Answer LevelsUnder
 leastOutcome W H t box =
     answer (regionCause W H t orElse boxCause W H box)
-    (record { level = leastWhere W H (levels t) (inBox box); visited = visits box 5 0 0 (regionsOf (treeOf t)) })
+    (record {
+      least = leastWhere W H (levels t) (inBox box);
+      greatest = greatestWhere W H (levels t) (inBox box);
+      visited = visits box 5 0 0 (regionsOf (treeOf t));
+    })
 
 -- ---- readings, display and cost: they "take a table and a point, cost a tariff too"
 

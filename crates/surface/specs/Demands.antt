@@ -12,13 +12,15 @@ use lib.Signed.{_≤ℤ_}
 use lib.Ieee.{Float}
 use lib.ListN.{length, getD, take}
 use Rattle.finite.specs.Range.{sum, sum2}
-use Rattle.surface.specs.Sheet.{Box, functions, steps, quarters, quarterOf, onSheet}
+use Rattle.surface.specs.Sheet.{Box, functions, steps, quarters, quarterOf, quarterBox, onSheet}
 use Rattle.surface.specs.Support.{lowEnd, highEnd, active, holdsAlong, holds, inRegion, inBox}
 use Rattle.surface.specs.Spline.{splineAt}
 use Rattle.surface.specs.Truncation.{D, weight, truncated, reading}
 use Rattle.surface.specs.Carry.{carried}
-use Rattle.surface.specs.Patch.{patch, evaluated, patchReading}
-use Rattle.surface.specs.Table.{treeOf, formed, levels, slots, coefficients, limit, Acceptable, tableReading}
+use Rattle.surface.specs.Patch.{patch, evaluated, patchReading, stopLevel}
+use Rattle.surface.specs.Quadtree.{visits}
+use Rattle.surface.specs.Table.{treeOf, formed, regionsOf, levels, slots, coefficients, limit, regionCause}
+use Rattle.surface.specs.Table.{Acceptable, tableReading}
 use Rattle.surface.specs.Calls.{Answer, refused, gives, Written, Done, freshOutcome, insertOutcome, setOutcome}
 use Rattle.surface.specs.Calls.{activityOutcome, leastOutcome, exactOutcome, displayOutcome, costOutcome}
 use Rattle.surface.specs.FloatReading.{FloatMeets}
@@ -284,17 +286,30 @@ PatchEvaluates =
     → (tableReading W H t cs u v ≡ patchReading W H (levels t) (coefficients W H cs) u v)
     × ((L k l : ℕ) → L < 4 → k < 4 → l < 4 → natAbs (patch W H (levels t) (coefficients W H cs) u v L k l) ≤ limit L)
 
--- A reading need not go on to level 3. From the level of "the quarter square holding its point" (document 02, Four) on
--- each level L gives it, as its carried values times its splines and as its patch evaluated. (A level above 3 counts
--- as 3; no table has one.)
+-- ---- document 02, Four: "The reading stops subdividing at the greatest level under the quarter square holding its
+-- point ...; for the exact reading the fraction, scaled to D, is the one document 01 defines"
+
+-- From that level on each level L gives it, as its carried values times its splines and as its patch evaluated. (A
+-- level above 3 counts as 3; no table has one.)
 abbrev pub AnyLevel : Type 0
 AnyLevel =
     (W H : ℕ) (lev : ℕ → ℕ → ℕ) (coef : ℕ → ℕ → ℕ → ℤ) (u v : ℕ) → 0 < W → 0 < H → u ≤ 128 * W → v ≤ 128 * H
-    → (L : ℕ) → L ≤ 3 → min (lev (quarterOf W u) (quarterOf H v)) 3 ≤ L
+    → (L : ℕ) → L ≤ 3 → min (stopLevel W H lev u v) 3 ≤ L
     → (reading W H lev coef u v
     ≡ sum2 (functions W L) (functions H L)
     (λ a b. pos (splineAt W L a u * splineAt H L b v) *ℤ carried W H lev coef L a b))
     × (reading W H lev coef u v ≡ evaluated W H lev coef u v L)
+
+-- "Our display will itself draw a dot where a table is refined under the point": asked for that quarter square as a
+-- box, the least level call gives the square's level twice, and it is the level at which a reading stops.
+abbrev pub DotTold : Type 0
+DotTold =
+    (W H : ℕ) (t : List ℕ) (u v : ℕ) → regionCause W H t ≡ 0
+    → let level = levels t (quarterOf W u) (quarterOf H v) in
+    let box = quarterBox W H u v in
+    (leastOutcome W H t box
+    ≡ gives (record { least = level; greatest = level; visited = visits box 5 0 0 (regionsOf (treeOf t)) }))
+    × (stopLevel W H (levels t) u v ≡ level)
 
 -- ---- "Function (i) of level L is the sum of functions 2i to 2i+4 of level L+1 with weights 1, 4, 6, 4, 1 over 8"
 

@@ -7,8 +7,8 @@ use lib.IntN.{ℤ, pos, _*ℤ_}
 use lib.Dec.{eqb}
 use lib.ListN.{getD}
 use Rattle.finite.specs.Range.{sum2}
-use Rattle.surface.specs.Sheet.{steps}
-use Rattle.surface.specs.Support.{inRegion}
+use Rattle.surface.specs.Sheet.{steps, quarterBox}
+use Rattle.surface.specs.Support.{greatestWhere, inRegion, inBox}
 use Rattle.surface.specs.Spline.{cellOf, piece}
 
 -- The weights 1, 4, 6, 4, 1 as a child c sees them: its parents are c/2, c/2 + 1, c/2 + 2.
@@ -39,6 +39,11 @@ evaluated W H lev coef u v L =
     let s = v - cellOf H L v * steps L in
     sum2 4 4 λ k l. pos (piece k r (steps L) * piece l s (steps L)) *ℤ patch W H lev coef u v L k l
 
--- That of level 3.
+-- Document 02, Four: "The reading stops subdividing at the greatest level under the quarter square holding its point".
+-- That each level from there on gives the exact reading is the theorem `any-level`.
+abbrev pub stopLevel : ℕ → ℕ → (ℕ → ℕ → ℕ) → ℕ → ℕ → ℕ
+stopLevel W H lev u v = greatestWhere W H lev (inBox (quarterBox W H u v))
+
+-- The patch's evaluation at level 3.
 unfoldable pub patchReading : ℕ → ℕ → (ℕ → ℕ → ℕ) → (ℕ → ℕ → ℕ → ℤ) → ℕ → ℕ → ℤ
 patchReading W H lev coef u v = evaluated W H lev coef u v 3

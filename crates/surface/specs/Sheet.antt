@@ -43,3 +43,8 @@ pub record Box : Type 0 where
   pub v0 : ℕ
   pub u1 : ℕ
   pub v1 : ℕ
+
+-- Document 02, Four: "the quarter square holding its point", as a box.
+abbrev pub quarterBox : ℕ → ℕ → ℕ → ℕ → Box
+quarterBox W H u v =
+    record { u0 = quarterOf W u; v0 = quarterOf H v; u1 = quarterOf W u + 1; v1 = quarterOf H v + 1 }

@@ -4,7 +4,7 @@
 use mathlib.Core.Bool.{Bool, _&&_, cond}
 use Prim.Native.Nat.{ℕ, _+_, _-_, _*_, min}
 use lib.Dec.{leb, ltb, eqb}
-use Rattle.finite.specs.Range.{least, count, total}
+use Rattle.finite.specs.Range.{least, greatest, count, total}
 use Rattle.surface.specs.Sheet.{Box, eighths, steps, quarters, functions}
 
 -- "support between L-cell edges i and i+4", "its support is cut to the sheet": the low and the high end in eighths,
@@ -31,6 +31,10 @@ holds L a b u v = holdsAlong L a u && holdsAlong L b v
 -- The least level of the quarter squares of the sheet that have the property; 3 if none has.
 abbrev pub leastWhere : ℕ → ℕ → (ℕ → ℕ → ℕ) → (ℕ → ℕ → Bool) → ℕ
 leastWhere W H lev p = least 3 (quarters W) (λ q. least 3 (quarters H) (λ r. cond (p q r) (lev q r) 3))
+
+-- The greatest level of those that have it; 0 if none has.
+abbrev pub greatestWhere : ℕ → ℕ → (ℕ → ℕ → ℕ) → (ℕ → ℕ → Bool) → ℕ
+greatestWhere W H lev p = greatest (quarters W) (λ q. greatest (quarters H) (λ r. cond (p q r) (lev q r) 0))
 
 -- "Under a support lie all quarter squares that share area with it": the least level under the cut support.
 unfoldable pub leastUnder : ℕ → ℕ → (ℕ → ℕ → ℕ) → ℕ → ℕ → ℕ → ℕ

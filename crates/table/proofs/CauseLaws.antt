@@ -13,8 +13,8 @@ use Rattle.surface.specs.Sheet.{Box, goodSide, functions, quarters}
 use Rattle.surface.specs.Table.{cause, _orElse_, treeOf, formed, levels, slots, coefficients}
 use Rattle.surface.specs.Table.{withinLimits, passiveZero, regionCause, tableCause}
 use Rattle.surface.specs.Calls.{boxCause}
-use Rattle.surface.proofs.TableLaws.{good-side}
-use Rattle.surface.proofs.Causes.{orElse-none, first, cause-none}
+use Rattle.surface.proofs.TableLaws.{regions-good}
+use Rattle.surface.proofs.Causes.{first, cause-none}
 use Rattle.boxes.specs.Boxes.{InSheet}
 use Rattle.rows.specs.Rows.{levelsOf, levelRows}
 use Rattle.rows.proofs.RowLaws.{rows-least}
@@ -35,13 +35,7 @@ region-by W H t u v f p q r =
 -- no cause 1 or 2
 pub region-none : (W H : ℕ) (t : List ℕ) → 0 ≡ regionCause W H t
     → (0 < W) × (W ≤ 8) × (H ≤ 8) × (formed W H (treeOf t) ≡ true)
-unfolding regionCause
-region-none W H t e =
-    let first = cause 1 (not (goodSide W && goodSide H)) in
-    let parts = orElse-none first (cause 2 (not (formed W H (treeOf t)))) (sym e) in
-    let sides = both (goodSide W) (goodSide H) (cause-none 0 (goodSide W && goodSide H) (parts .0)) in
-    let w = good-side W (sides .0) in
-    (w .0, w .1, good-side H (sides .1) .1, cause-none 1 (formed W H (treeOf t)) (parts .1))
+region-none W H t e = let g = regions-good W H t (sym e) in (g .0, g .1, g .3, g .4)
 
 -- ---- causes 3 to 5
 

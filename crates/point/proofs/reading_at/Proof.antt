@@ -1,15 +1,17 @@
--- The patch of each level is that of document 01 under the rows, and so under the tree that the rows are of.
-use mathlib.Core.Path.{_≡_, refl, _∙_}
+-- The patch of the level to stop at is that of document 01 under the rows, and so under the tree that the rows are of.
+use mathlib.Core.Path.{_≡_, sym, ap, _∙_, subst}
 use Prim.Native.Nat.{_-_, _*_, _≤_, _<_}
+use native.Mathlib.Nat.{le-refl}
 use native.Mathlib.Omega.{arith}
-use lib.Dec.{lit<, lit≤}
+use borrow.Author.Needs.{needs, sfits-of}
 use lib.ListN.{length}
 use mir.Syntax.{w64}
 use mir.ValLaws.{toZ-ofZ}
-use borrow.Author.Needs.{sfits-of}
-use Rattle.surface.specs.Sheet.{eighths}
+use Rattle.surface.specs.Sheet.{steps}
 use Rattle.surface.specs.Table.{slots, limit}
-use Rattle.point.proofs.PatchLaws.{steps-left, point-ready, patch-bounded, finer-ready, reading-of}
+use Rattle.activity.proofs.WindowLaws.{eighths-le}
+use Rattle.point.specs.Patches.{PatchAt}
+use Rattle.point.proofs.PatchLaws.{steps-left, point-ready, patch-bounded, reading-of}
 use Rattle.point.proofs.reading_at.Statement.{statement}
 use Rattle.point.proofs.reading_at.Tie as tie
 
@@ -20,101 +22,97 @@ ready : (s : tie.Start)
     × (length (a .numbers .now) ≡ slots (a .w) (a .h))
 ready s = let a = s .args in point-ready (a .w) (a .h) (a .rows .now) (a .numbers .now) (a .u) (a .v) (s .pre)
 
-coarsest-requires : tie.Need-coarsest-requires
-coarsest-requires c κs = ready c
-
-finer-requires : tie.Need-finer-requires
-finer-requires c κs =
-    let a = c .before .args in
-    finer-ready (a .w) (a .h) (a .rows .now) (a .numbers .now) (a .u) (a .v) (c .before .pre) 1 (c .coarsest .result)
-    (lit< tt) (lit≤ tt) (c .coarsest .ensures (a .rows .now))
-
-finer-requires-2 : tie.Need-finer-requires-2
-finer-requires-2 c κs =
-    let s = c .before .before in
-    let a = s .args in
-    finer-ready (a .w) (a .h) (a .rows .now) (a .numbers .now) (a .u) (a .v) (s .pre) 2 (c .finer .result) (lit< tt)
-    (lit≤ tt) (c .finer .ensures)
-
-finer-requires-3 : tie.Need-finer-requires-3
-finer-requires-3 c κs =
-    let s = c .before .before .before in
-    let a = s .args in
-    finer-ready (a .w) (a .h) (a .rows .now) (a .numbers .now) (a .u) (a .v) (s .pre) 3 (c .finer2 .result) (lit< tt)
-    (lit≤ tt) (c .finer2 .ensures)
+level-of-requires : tie.Need-level-of-requires
+level-of-requires c κs = let r = ready c in (r .0, r .1, r .2, r .3)
 
 cell-of-requires : tie.Need-cell-of-requires
 cell-of-requires c κs =
-    let r = ready (c .before .before .before .before) in
-    (r .0, r .1, lit≤ tt, r .4)
+    let r = ready (c .before .before) in
+    (r .0, r .1, c .before .level-of .ensures .1, r .4)
 
 cell-of-requires-2 : tie.Need-cell-of-requires-2
 cell-of-requires-2 c κs =
-    let r = ready (c .before .before .before .before .before) in
-    (r .2, r .3, lit≤ tt, r .5)
+    let d = c .before in
+    let r = ready (d .before .before) in
+    (r .2, r .3, d .before .level-of .ensures .1, r .5)
 
--- where the point lies in its cell
-left-u : (c : tie.After-cell-of2)
-    → let u = c .before .before .before .before .before .before .args .u in
-    let a = c .before .cell-of .result in (16 * a ≤ u) × (u - 16 * a ≤ 16)
-left-u c =
-    let s = c .before .before .before .before .before .before in
-    steps-left (s .args .w) (s .args .u) (c .before .cell-of .result) (ready s .0) (s .pre .0)
-    (c .before .cell-of .ensures .0)
+mul-steps : tie.Need-mul-steps
+mul-steps c = let few : c .eighths .result ≤ 8 = rw (c .eighths .ensures) (eighths-le _) in omega arith
 
-left-v : (c : tie.After-cell-of2)
-    → let v = c .before .before .before .before .before .before .args .v in
-    let b = c .cell-of2 .result in (16 * b ≤ v) × (v - 16 * b ≤ 16)
-left-v c =
-    let s = c .before .before .before .before .before .before in
-    steps-left (s .args .h) (s .args .v) (c .cell-of2 .result) (ready s .2) (s .pre .1) (c .cell-of2 .ensures .0)
+-- the level to stop at, the patch of it, the two cells, and the steps of a cell
+module _ (c : tie.After-eighths) where
+  abbrev cells : tie.After-cell-of2
+  cells = c .before
+
+  abbrev found : tie.After-patch-of
+  found = cells .before .before
+
+  abbrev at : tie.After-level-of
+  at = found .before
+
+  abbrev start : tie.Start
+  start = at .before
+
+  n : 16 * c .eighths .result ≡ steps (at .level-of .result)
+  n = ap (λ e. 16 * e) (c .eighths .ensures)
+
+  patched :
+      let a = start .args in
+      PatchAt (a .w) (a .h) (a .rows .now) (a .numbers .now) (a .u) (a .v) (at .level-of .result)
+      (found .patch-of .result)
+  patched =
+      let a = start .args in
+      subst (λ L. PatchAt (a .w) (a .h) (a .rows .now) (a .numbers .now) (a .u) (a .v) L (found .patch-of .result))
+      (sym (at .level-of .ensures .0)) (found .patch-of .ensures)
+
+  -- where the point lies in its cell
+  left-u : let n = 16 * c .eighths .result in
+      let a = cells .before .cell-of .result in
+      (n * a ≤ start .args .u) × (start .args .u - n * a ≤ n)
+  left-u =
+      steps-left (start .args .w) (at .level-of .result) (start .args .u) (cells .before .cell-of .result) _
+      (ready start .0) (start .pre .0) (at .level-of .ensures .1) (cells .before .cell-of .ensures .0) n
+
+  left-v : let n = 16 * c .eighths .result in
+      let b = cells .cell-of2 .result in (n * b ≤ start .args .v) × (start .args .v - n * b ≤ n)
+  left-v =
+      steps-left (start .args .h) (at .level-of .result) (start .args .v) (cells .cell-of2 .result) _
+      (ready start .2) (start .pre .1) (at .level-of .ensures .1) (cells .cell-of2 .ensures .0) n
 
 mul-evaluate : tie.Need-mul-evaluate
-mul-evaluate c = omega (arith, left-u c .0, c .before .before .before .before .before .before .fits .u)
+mul-evaluate c = omega (arith, left-u c .0, start c .fits .u)
 
 sub-evaluate : tie.Need-sub-evaluate
 sub-evaluate c = omega (arith, left-u c .0)
 
 mul-evaluate-2 : tie.Need-mul-evaluate-2
-mul-evaluate-2 c = omega (arith, left-v c .0, c .before .before .before .before .before .before .fits .v)
+mul-evaluate-2 c = omega (arith, left-v c .0, start c .fits .v)
 
 sub-evaluate-2 : tie.Need-sub-evaluate-2
 sub-evaluate-2 c = omega (arith, left-v c .0)
 
 evaluate-requires : tie.Need-evaluate-requires
-unfolding eighths
 evaluate-requires c κs =
-    let d = c .before .before in
-    let s = d .before .before .before .before in
+    let s = start c in
     let a = s .args in
-    let b = patch-bounded (a .w) (a .h) (a .rows .now) (a .numbers .now) (a .u) (a .v) (s .pre) 3 (limit 3)
-    (d .finer3 .result) (lit< tt) (lit≤ tt) (d .finer3 .ensures) in
-    (omega (arith, left-u c .1), omega (arith, left-v c .1), (3, lit< tt, refl, b))
+    let level = at c .level-of .result in
+    let b = patch-bounded (a .w) (a .h) (a .rows .now) (a .numbers .now) (a .u) (a .v) (s .pre) level (limit level)
+    (found c .patch-of .result) (omega (arith, at c .level-of .ensures .1)) (le-refl (limit level)) (patched c) in
+    (omega (arith, left-u c .1), omega (arith, left-v c .1), (level, omega (arith, at c .level-of .ensures .1), n c, b))
 
 returns : tie.Need-returns
 returns c = λ t painted acc.
-    let cells = c .before in
-    let d = cells .before .before in
-    let s = d .before .before .before .before in
+    let d = c .before in
+    let s = start d in
     let a = s .args in
     toZ-ofZ w64 (c .evaluate .result) (sfits-of (c .evaluate .ok))
     ∙ reading-of (a .w) (a .h) (a .rows .now) (a .numbers .now) (a .u) (a .v) (s .pre .0, s .pre .1, (t, painted, acc))
-    (cells .before .cell-of .result) (cells .cell-of2 .result) (d .finer3 .result) (c .evaluate .result)
-    (cells .before .cell-of .ensures .0) (cells .cell-of2 .ensures .0) (d .finer3 .ensures) (c .evaluate .ensures)
+    (at d .level-of .result) (cells d .before .cell-of .result) (cells d .cell-of2 .result) _
+    (found d .patch-of .result) (c .evaluate .result) (at d .level-of .ensures .0) (n d)
+    (cells d .before .cell-of .ensures .0) (cells d .cell-of2 .ensures .0) (patched d) (c .evaluate .ensures)
 
 pub reading-at-spec : {M : Type 1} → statement M
 reading-at-spec =
     tie.close
-    (tie.spec
-    coarsest-requires
-    finer-requires
-    finer-requires-2
-    finer-requires-3
-    cell-of-requires
-    cell-of-requires-2
-    mul-evaluate
-    sub-evaluate
-    mul-evaluate-2
-    sub-evaluate-2
-    evaluate-requires
-    returns)
+    (tie.spec level-of-requires (λ c κs. search needs) cell-of-requires cell-of-requires-2 (λ c κs. search needs)
+    mul-steps mul-evaluate sub-evaluate mul-evaluate-2 sub-evaluate-2 evaluate-requires returns)
