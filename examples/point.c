@@ -3,8 +3,8 @@
    cc -Iinclude examples/point.c target/staticlib/libkiln.a -o point
    ./point tables/kiln-refined-near-top-heat.table 900 200 2950
 
-   Exits with 0, or with the refusal number, which is shown with its words; with 255 where an argument is no such thing
-   or the file can't be read. */
+   Exits with 0, or with the refusal number, which is shown with its words; with 255 where an argument is no such thing,
+   the file can't be read or the output can't be written. */
 #include "kiln_table.h"
 
 #include <errno.h>
@@ -104,5 +104,9 @@ int main(int argc, char **argv) {
     refused = show(&table, point, tariff);
   }
   if (refused) printf("refused %d: %s\n", refused, kiln_refusal_words(refused));
+  if (fflush(stdout) || ferror(stdout)) {
+    fprintf(stderr, "point: the output can't be written\n");
+    return 255;
+  }
   return refused;
 }

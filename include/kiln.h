@@ -2,15 +2,16 @@
 
    Power draw over chamber temperature and climb rate is a surface of truncated hierarchical bicubic splines on a sheet
    of W by H cells. The calls make, load, refine, read and save tables of such a surface. `rt staticlib kiln` writes
-   the library to target/staticlib/libkiln.a, for x86-64. It needs memcpy and memset and nothing else. kiln_table.h has
-   the same calls with a table in one struct.
+   the library to target/staticlib/libkiln.a, for x86-64. It needs memcpy and memset and nothing else. This header
+   includes kiln_refusal.h, which stands beside it. kiln_table.h has the same calls with a table in one struct. The
+   calls are proved; the static inline functions of all three headers are plain C, which is tested and not proved.
 
    Answers
      Every call returns 0 when it is done, else the refusal number of the cause that applies, the lowest where several
-     do, or for a file the first in byte order (enum kiln_refusal; in words by kiln_refusal_words). Each call below
-     names those that it can give. What it gives beside is written through its pointers. A refused call writes nothing:
-     every buffer and every value that was lent holds what it held before. Every call ends in one of the two, whatever
-     the numbers and the contents of the buffers are.
+     do, or for a file the first in byte order (enum kiln_refusal of kiln_refusal.h; in words by kiln_refusal_words).
+     Each call below names those that it can give. What it gives beside is written through its pointers. A refused call
+     writes nothing: every buffer and every value that was lent holds what it held before. Every call ends in one of
+     the two, whatever the numbers and the contents of the buffers are.
 
    Slices
      A buffer passes as a pointer and, right after it, a length in elements. The length is taken as said: that many
@@ -30,6 +31,8 @@
 #ifndef KILN_H
 #define KILN_H
 
+#include "kiln_refusal.h"
+
 #include <stddef.h>
 #include <stdint.h>
 
@@ -40,7 +43,7 @@ extern "C" {
 /* The version of this header, which is that of the library it came with. The archive itself carries none: compile a
    program with the header of the archive that it links. */
 #define KILN_VERSION_MAJOR 0
-#define KILN_VERSION_MINOR 4
+#define KILN_VERSION_MINOR 5
 #define KILN_VERSION_PATCH 0
 
 /* The table
@@ -66,63 +69,13 @@ extern "C" {
    j to j + 4 along v, cut to the sheet. A function is active when the least level under its support is its own: the
    least of all squares that share area with it, also where a level 3 edge halves one. Passive places hold 0.
 
-   u, v: a point, in steps of 1/128 cell of level 0: 0 to 128*w and 0 to 128*h, far edges included.
+   u, v: a point, in steps of 1/128 cell of level 0: 0 to 128*w and 0 to 128*h, far edges included. The quarter square
+   that holds it is on a shared edge the one of greater u, or of greater v, at a corner of both; at a far edge it is the
+   last (kiln_quarter).
 
    u0, v0, u1, v1: a box, two corners in whole quarters, low corner first: u0 < u1 <= 4*w and v0 < v1 <= 4*h.
 
    A negative number that C turns into a size_t is far above every limit and is refused with its cause's number. */
-
-/* The causes of refusal, in words by kiln_refusal_words. Later versions may have more numbers. 14 is also for a note
-   above 64 bytes that is lent to kiln_write_file: its field would have a wrong length, so the words serve for both. */
-enum kiln_refusal {
-  KILN_DONE = 0,
-  KILN_SIDE = 1,
-  KILN_TREE = 2,
-  KILN_NUMBERS_LENGTH = 3,
-  KILN_COEFFICIENT_LIMIT = 4,
-  KILN_PASSIVE_NOT_ZERO = 5,
-  KILN_POINT = 6,
-  KILN_BOX = 7,
-  KILN_LEVEL = 8,
-  KILN_FUNCTION = 9,
-  KILN_NUMBER_LIMIT = 10,
-  KILN_TARIFF = 11,
-  KILN_FILE_ENDS = 12,
-  KILN_FILE_TAG = 13,
-  KILN_FILE_FIELD_LENGTH = 14,
-  KILN_FILE_GOES_ON = 15,
-  KILN_OUTPUT_LENGTH = 16,
-  KILN_TREE_OUTPUT_SHORT = 17,
-  KILN_FILE_OUTPUT_SHORT = 18,
-  KILN_FILE_COUNT = 20  /* 19 is not given by this version */
-};
-
-/* What a call returned, in words; for every number, never NULL. */
-static inline const char *kiln_refusal_words(uint8_t number) {
-  switch (number) {
-    case KILN_DONE: return "no refusal";
-    case KILN_SIDE: return "a side of 0 or above 8";
-    case KILN_TREE: return "tree not of the form of a region tree";
-    case KILN_NUMBERS_LENGTH: return "coefficient slice not of the total length";
-    case KILN_COEFFICIENT_LIMIT: return "active coefficient past its limit";
-    case KILN_PASSIVE_NOT_ZERO: return "passive place not 0";
-    case KILN_POINT: return "point off the sheet";
-    case KILN_BOX: return "box with no area, or past the sheet";
-    case KILN_LEVEL: return "level not 1 to 3 (insert) or 0 to 3 (set, activity)";
-    case KILN_FUNCTION: return "set: index out of range or function passive";
-    case KILN_NUMBER_LIMIT: return "set, fresh: number past its limit";
-    case KILN_TARIFF: return "tariff above 99,999";
-    case KILN_FILE_ENDS: return "file ends inside a head or body";
-    case KILN_FILE_TAG: return "other tag than the one due";
-    case KILN_FILE_FIELD_LENGTH: return "field length wrong";
-    case KILN_FILE_GOES_ON: return "bytes after the last field";
-    case KILN_OUTPUT_LENGTH: return "numbers or activity output not of the exact length";
-    case KILN_TREE_OUTPUT_SHORT: return "tree output shorter than the tree";
-    case KILN_FILE_OUTPUT_SHORT: return "file output shorter than the file";
-    case KILN_FILE_COUNT: return "count in a file differs from the tree's";
-    default: return "a cause that this version has no words for";
-  }
-}
 
 /* No tree is longer: a tree output of this length is never too short. */
 #define KILN_TREE_BYTES 1365
@@ -181,6 +134,16 @@ static inline int kiln_file_counts(const uint8_t *file, size_t file_len, size_t 
   return 1;
 }
 
+/* The quarter that holds a place along a side of the sheet, counted from 0: on an edge that two quarters share the
+   later one, and at the far edge the last. So kiln_quarter(w, u) and kiln_quarter(h, v) are the low corner of the
+   quarter square that holds a point, and one more each the high corner.
+
+   side    w or h, 1 to 8
+   steps   u or v; where it is past the far edge the quarter is past the sheet, and a box with it is refused with 7 */
+static inline size_t kiln_quarter(size_t side, size_t steps) {
+  return steps == 128 * side ? 4 * side - 1 : steps / 32;
+}
+
 /* Judges a table: 0 for an acceptable one, else the lowest of the causes 1 to 5 that applies. Writes nothing.
 
    w, h, tree, numbers   the table; any contents and lengths
@@ -189,17 +152,25 @@ static inline int kiln_file_counts(const uint8_t *file, size_t file_len, size_t 
 uint8_t kiln_table_cause(size_t w, size_t h, const uint8_t *tree, size_t tree_len, const int64_t *numbers,
                          size_t numbers_len);
 
-/* The least level under a box, with the number of tree nodes visited: the root, and each child of a visited split
-   whose square shares area with the box.
+/* The least and the greatest level under a box, with the number of tree nodes visited: the root, and each child of a
+   visited split whose square shares area with the box. The greatest level is found from the same visited nodes as the
+   least, and comes with the same count.
+
+   A display may draw a dot where a table is refined under a point: there the greatest level under the quarter square
+   that holds the point (kiln_quarter) is above 0. examples/dot.c has it whole.
 
    w, h, tree       the sheet and its tree
    u0, v0, u1, v1   the box
-   level            receives the least level, 0 to 3
+   least            receives the least level, 0 to 3
+   greatest         receives the greatest level, from the least to 3
    visited          receives the number of nodes
 
-   Refusals: 1, 2, 7. A refusal leaves level and visited as they were. */
+   Refusals: 1, 2, 7. A refusal leaves least, greatest and visited as they were.
+
+   greatest is new in 0.5.0, before visited, and least was called level. A program compiled with an earlier header still
+   links, and its call is undefined: it must be compiled anew. */
 uint8_t kiln_least_level(size_t w, size_t h, const uint8_t *tree, size_t tree_len, size_t u0, size_t v0, size_t u1,
-                         size_t v1, uint8_t *level, size_t *visited);
+                         size_t v1, uint8_t *least, uint8_t *greatest, size_t *visited);
 
 /* The activity of a level: one byte for each of its places, in the order of the coefficients, 1 for an active function
    and 0 for a passive one.
@@ -254,6 +225,7 @@ uint8_t kiln_set(size_t w, size_t h, const uint8_t *tree, size_t tree_len, int64
                  size_t level, int64_t i, int64_t j, int64_t number);
 
 /* The exact reading at a point: what the active coefficients times their truncated functions add up to.
+   How far a table is refined at the point affects only how long a reading takes, not the figure.
 
    w, h, tree, numbers   the table
    u, v                  the point

@@ -1,9 +1,9 @@
 /* The calls of kiln.h with a table in one struct, for C and C++.
 
    A table, a point, a box, a function and a sheet are structs of their own, so that a compiler refuses one in place of
-   another, and a table's sides, buffers and lengths stay together. Each function makes the one call that it names:
-   what that gives, its refusals and what they leave are said in kiln.h, and below what differs. Members are best said
-   by name, in C as (struct kiln_point){.u = 64, .v = 5}. */
+   another, and a table's sides, buffers and lengths stay together. Each function makes the one call that it names, but
+   for those of rooms and of quarters, which make none: what the call gives, its refusals and what they leave are said
+   in kiln.h, and below what differs. Members are best said by name, in C as (struct kiln_point){.u = 64, .v = 5}. */
 #ifndef KILN_TABLE_H
 #define KILN_TABLE_H
 
@@ -163,11 +163,20 @@ static inline uint8_t kiln_table_cost(const struct kiln_table *table, struct kil
                    point.v, tariff, cost);
 }
 
+/* The quarter square that holds a point, as a box (kiln_quarter): where its greatest level is above 0, a display draws
+   its dot. A point off the sheet makes a box past the sheet, which kiln_table_least_level refuses with 7.
+   Where 6 is wanted, as by a reading, check the point first, as examples/dot.c does. */
+static inline struct kiln_box kiln_table_quarter(const struct kiln_table *table, struct kiln_point point) {
+  size_t u = kiln_quarter(table->w, point.u), v = kiln_quarter(table->h, point.v);
+  struct kiln_box quarter = {u, v, u + 1, v + 1};
+  return quarter;
+}
+
 /* kiln_least_level. Takes the table's sheet and tree; its numbers are not looked at. */
-static inline uint8_t kiln_table_least_level(const struct kiln_table *table, struct kiln_box box, uint8_t *level,
-                                             size_t *visited) {
-  return kiln_least_level(table->w, table->h, table->tree, table->tree_len, box.u0, box.v0, box.u1, box.v1, level,
-                          visited);
+static inline uint8_t kiln_table_least_level(const struct kiln_table *table, struct kiln_box box, uint8_t *least,
+                                             uint8_t *greatest, size_t *visited) {
+  return kiln_least_level(table->w, table->h, table->tree, table->tree_len, box.u0, box.v0, box.u1, box.v1, least,
+                          greatest, visited);
 }
 
 /* kiln_activity. Takes the table's sheet and tree; its numbers are not looked at. */

@@ -18,7 +18,7 @@ extern "C" {
     ) -> u8;
     fn kiln_least_level(
         w: usize, h: usize, tree: *const u8, tree_len: usize, u0: usize, v0: usize, u1: usize, v1: usize,
-        level: *mut u8, visited: *mut usize,
+        least: *mut u8, greatest: *mut u8, visited: *mut usize,
     ) -> u8;
     fn kiln_activity(
         w: usize, h: usize, tree: *const u8, tree_len: usize, level: usize, out: *mut u8, out_len: usize,
@@ -84,12 +84,14 @@ pub fn table_cause([w, h]: [usize; 2], tree: &[u8], numbers: &[i64]) -> Answer<(
     unless_refused(n, ())
 }
 
-/// The least level and the number of nodes visited.
-pub fn least_level([w, h]: [usize; 2], tree: &[u8], [u0, v0, u1, v1]: [usize; 4]) -> Answer<(u8, usize)> {
-    let (mut level, mut visited) = (0, 0);
-    // SAFETY: reads the tree's slice and writes two local values.
-    let n = unsafe { kiln_least_level(w, h, tree.as_ptr(), tree.len(), u0, v0, u1, v1, &mut level, &mut visited) };
-    unless_refused(n, (level, visited))
+/// The least level, the greatest level and the number of nodes visited.
+pub fn least_level([w, h]: [usize; 2], tree: &[u8], [u0, v0, u1, v1]: [usize; 4]) -> Answer<(u8, u8, usize)> {
+    let (mut least, mut greatest, mut visited) = (0, 0, 0);
+    // SAFETY: reads the tree's slice and writes three local values.
+    let n = unsafe {
+        kiln_least_level(w, h, tree.as_ptr(), tree.len(), u0, v0, u1, v1, &mut least, &mut greatest, &mut visited)
+    };
+    unless_refused(n, (least, greatest, visited))
 }
 
 pub fn activity([w, h]: [usize; 2], tree: &[u8], level: usize, out: &mut [u8]) -> Answer<()> {

@@ -3,7 +3,7 @@
 //! Power draw over chamber temperature and climb rate is a surface of truncated hierarchical bicubic splines on a
 //! sheet of W by H cells, each side 1 to 8. A [`Table`] is such a surface: a sheet, a tree of regions and
 //! coefficients. This crate is a safe layer over the calls of a proved library, which decide every answer and every
-//! refusal; `include/kiln.h` says what each number means.
+//! refusal; `include/kiln_refusal.h` says what each number means.
 //!
 //! ```
 //! use kiln::{Point, QuarterBox, Table};
@@ -45,4 +45,4 @@ pub use around::ActiveFunction;
 pub use place::{Point, QuarterBox};
 pub use refusal::Refusal;
 pub use sizes::{file_counts, level_places, place_of, places, DENOMINATOR, FILE_BYTES, NOTE_BYTES, TREE_BYTES};
-pub use table::{Least, Table};
+pub use table::{Levels, Table};

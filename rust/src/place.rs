@@ -1,4 +1,5 @@
 //! Where something is on the sheet.
+use crate::sizes::places;
 
 /// A point, in steps of 1/128 cell: 0 to 128 × W and 0 to 128 × H, far edges included.
 ///
@@ -70,6 +71,35 @@ impl QuarterBox {
     /// ```
     pub fn new(u0: usize, v0: usize, u1: usize, v1: usize) -> QuarterBox {
         QuarterBox { u0, v0, u1, v1 }
+    }
+
+    /// The quarter square that holds a point of a `w` by `h` sheet: on a shared edge the one of greater u, of greater
+    /// v, at a corner of both, and at a far edge the last. `None` for a point off the sheet, and for sides that are not
+    /// 1 to 8.
+    ///
+    /// [`Table::least_level`](crate::Table::least_level) gives its level.
+    ///
+    /// ```
+    /// use kiln::{Point, QuarterBox};
+    ///
+    /// // A quarter is 32 steps: 2 by 1 cells have eight quarters along u and four along v.
+    /// let holding = |u, v| QuarterBox::holding(2, 1, Point::new(u, v));
+    /// assert_eq!(holding(31, 63), Some(QuarterBox::new(0, 1, 1, 2)));
+    /// assert_eq!(holding(32, 63), Some(QuarterBox::new(1, 1, 2, 2))); // on an edge: of greater u
+    /// assert_eq!(holding(31, 64), Some(QuarterBox::new(0, 2, 1, 3))); // of greater v
+    /// assert_eq!(holding(32, 64), Some(QuarterBox::new(1, 2, 2, 3))); // of both
+    /// assert_eq!(holding(255, 127), Some(QuarterBox::new(7, 3, 8, 4)));
+    /// assert_eq!(holding(256, 128), Some(QuarterBox::new(7, 3, 8, 4))); // at the far edges: the last
+    /// assert_eq!(holding(257, 0), None);
+    /// assert_eq!(holding(0, 129), None);
+    /// assert_eq!(QuarterBox::holding(9, 1, Point::new(0, 0)), None);
+    /// ```
+    pub fn holding(w: usize, h: usize, point: Point) -> Option<QuarterBox> {
+        if places(w, h) == 0 || point.u > 128 * w || point.v > 128 * h {
+            return None;
+        }
+        let (u, v) = ((point.u / 32).min(4 * w - 1), (point.v / 32).min(4 * h - 1));
+        Some(QuarterBox::new(u, v, u + 1, v + 1))
     }
 
     pub(crate) fn corners(self) -> [usize; 4] {

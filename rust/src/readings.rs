@@ -6,6 +6,7 @@ use crate::table::Table;
 
 impl Table {
     /// The exact reading at a point, in watts, as a numerator over [`DENOMINATOR`](crate::DENOMINATOR).
+    /// How far a table is refined at the point affects only how long a reading takes, not the figure.
     ///
     /// Refused: a point off the sheet.
     ///

@@ -31,21 +31,23 @@ pub struct Table {
     numbers: Vec<i64>,
 }
 
-/// The least level under a box, and the tree nodes that were visited for it.
+/// The least and the greatest level under a box, both from the same tree nodes, and how many were visited.
 ///
 /// ```
 /// use kiln::{QuarterBox, Table};
 ///
 /// // A tree of one leaf has one node to visit.
-/// let least = Table::fresh(1, 1, 0)?.least_level(QuarterBox::new(1, 1, 2, 2))?;
-/// assert_eq!((least.level, least.visited), (0, 1));
+/// let under = Table::fresh(1, 1, 0)?.least_level(QuarterBox::new(1, 1, 2, 2))?;
+/// assert_eq!((under.least, under.greatest, under.visited), (0, 0, 1));
 /// # Ok::<(), kiln::Refusal>(())
 /// ```
 #[derive(Clone, Copy, Debug, PartialEq, Eq, Hash)]
 #[non_exhaustive]
-pub struct Least {
+pub struct Levels {
     /// The least level, 0 to 3.
-    pub level: u8,
+    pub least: u8,
+    /// The greatest level, from the least to 3.
+    pub greatest: u8,
     /// The root, and each child of a visited split whose square shares area with the box.
     pub visited: usize,
 }
@@ -224,7 +226,7 @@ impl Table {
         Ok(ffi::set(self.sheet(), &self.tree, &mut self.numbers, level, [i, j], number)?)
     }
 
-    /// The least level under a box, with the number of tree nodes visited.
+    /// The least and the greatest level under a box, with the number of tree nodes visited.
     ///
     /// Refused: a box with no area or past the sheet.
     ///
@@ -233,17 +235,38 @@ impl Table {
     ///
     /// let raised = QuarterBox::new(0, 0, 4, 4);
     /// let one = Table::fresh(1, 1, 0)?.insert(raised, 1)?;
-    /// let least = one.least_level(raised)?;
-    /// assert_eq!((least.level, least.visited), (1, 4));
+    /// let under = one.least_level(raised)?;
+    /// assert_eq!((under.least, under.greatest, under.visited), (1, 1, 4));
     /// assert_eq!(one.least_level(QuarterBox::new(0, 0, 5, 4)), Err(Refusal::QuarterBox));
     /// let two = Table::fresh(2, 1, 0)?.insert(raised, 1)?;
-    /// let least = two.least_level(QuarterBox::new(0, 0, 8, 4))?;
-    /// assert_eq!((least.level, least.visited), (0, 5));
+    /// let under = two.least_level(QuarterBox::new(0, 0, 8, 4))?;
+    /// assert_eq!((under.least, under.greatest, under.visited), (0, 1, 5));
     /// # Ok::<(), Refusal>(())
     /// ```
-    pub fn least_level(&self, under: QuarterBox) -> Result<Least, Refusal> {
-        let (level, visited) = ffi::least_level(self.sheet(), &self.tree, under.corners())?;
-        Ok(Least { level, visited })
+    ///
+    /// A display draws a dot where the table is refined under the point, which is where the greatest level under the
+    /// quarter square that holds the point is above 0:
+    ///
+    /// ```
+    /// use kiln::{Point, QuarterBox, Refusal, Table};
+    ///
+    /// fn dot(table: &Table, point: Point) -> Result<bool, Refusal> {
+    ///     let quarter = QuarterBox::holding(table.width(), table.height(), point).ok_or(Refusal::Point)?;
+    ///     Ok(table.least_level(quarter)?.greatest > 0)
+    /// }
+    ///
+    /// // The western half of 2 by 1 is refined. On its edge, at u 128, the quarter square of greater u counts; at the
+    /// // far edge, at v 128, the last.
+    /// let table = Table::fresh(2, 1, 700)?.insert(QuarterBox::new(0, 0, 4, 4), 1)?;
+    /// let dots = [(0, 0), (127, 64), (127, 128), (128, 0), (128, 128), (256, 128)];
+    /// let drawn = dots.map(|(u, v)| dot(&table, Point::new(u, v)));
+    /// assert_eq!(drawn, [Ok(true), Ok(true), Ok(true), Ok(false), Ok(false), Ok(false)]);
+    /// assert_eq!(dot(&table, Point::new(257, 0)), Err(Refusal::Point));
+    /// # Ok::<(), Refusal>(())
+    /// ```
+    pub fn least_level(&self, under: QuarterBox) -> Result<Levels, Refusal> {
+        let (least, greatest, visited) = ffi::least_level(self.sheet(), &self.tree, under.corners())?;
+        Ok(Levels { least, greatest, visited })
     }
 
     /// Which functions of a level are active, in the order of the coefficients.

@@ -72,7 +72,7 @@ fn active(table: &Table, (level, i, j): (usize, i64, i64)) -> bool {
         (low as usize / 2, (high as usize + 1) / 2)
     };
     let ((u0, u1), (v0, v1)) = (cut(i, table.width()), cut(j, table.height()));
-    usize::from(table.least_level(QuarterBox::new(u0, v0, u1, v1)).unwrap().level) == level
+    usize::from(table.least_level(QuarterBox::new(u0, v0, u1, v1)).unwrap().least) == level
 }
 
 // Corners and edges of the sheet, knots of every level with the steps beside them, and points anywhere.

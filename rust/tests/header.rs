@@ -1,7 +1,8 @@
-//! The crate has the numbers of the C header.
+//! The crate has the numbers of the C headers.
 use kiln::{places, Refusal, DENOMINATOR, FILE_BYTES, NOTE_BYTES, TREE_BYTES};
 
 const HEADER: &str = include_str!(concat!(env!("CARGO_MANIFEST_DIR"), "/../include/kiln.h"));
+const REFUSALS: &str = include_str!(concat!(env!("CARGO_MANIFEST_DIR"), "/../include/kiln_refusal.h"));
 
 fn leading_number(text: &str) -> i64 {
     let digits = text.find(|c: char| !c.is_ascii_digit()).unwrap_or(text.len());
@@ -11,7 +12,7 @@ fn leading_number(text: &str) -> i64 {
 #[test]
 fn every_refusal_of_the_header_has_a_name_and_no_other_number_has() {
     let of_header = |line: &'static str| Some(leading_number(line.trim().strip_prefix("KILN_")?.split_once(" = ")?.1));
-    let numbers: Vec<i64> = HEADER.lines().filter_map(of_header).collect();
+    let numbers: Vec<i64> = REFUSALS.lines().filter_map(of_header).collect();
     assert_eq!(numbers[0], 0);
     for number in 0..=u8::MAX {
         let named = Refusal::of(number).is_some();

@@ -6,11 +6,10 @@ from __future__ import annotations
 
 from typing import Callable, Dict, List, NamedTuple
 
-from measure import BEYOND, LARGEST, LARGEST_FILE, LOADS, MEASURED, OF_FILES, READ, READ_UNCOUNTED, READINGS
-from measure import UNREFINED, WRITES, Figures, calls_on, counted_on
+from measure import LARGEST, LARGEST_FILE, LOADS, MEASURED, READ, READ_UNCOUNTED, READINGS, UNREFINED, WRITES
+from measure import Figures, beyond_on, counted_on, level_at, stacked_on, tables
 
-RATIO = 1.35
-RATIO_OF_FILES = 1.2
+RATIO = 1.2
 CHECK = 150_000
 CHECK_UNREFINED = 64_000
 INSERTION = 450_000
@@ -38,8 +37,10 @@ READ_BEFORE_NOTE = {
     "8 by 8, all of level 3": (219_152, 219_115),
 }
 MORE_FOR_NOTE = 500
-READING_BEYOND_CHECK = 6_000
-READING = CHECK + READING_BEYOND_CHECK
+# Of an exact reading beyond the table check, by the level of the quarter square that holds its point.
+BEYOND_AT_LEVEL = (500, 1_250, 2_000, 2_750)
+# Readings are taken at a point of level 0.
+READING = CHECK + BEYOND_AT_LEVEL[0]
 STACK = 8_192
 CORNERS = 5.0
 
@@ -52,11 +53,10 @@ class Bar(NamedTuple):
     of: Callable[[Figures], Dict[str, float]]
 
 
-def ratios(asked: Callable[[str], bool]) -> Callable[[Figures], Dict[str, float]]:
-    """The instructions over those of the C program, on each table, of the calls that are asked for."""
-    return lambda figures: {
-        f"{MEASURED.get(call, call)}, {table}": ours.counts[call] / figures.plain[table].counts[call]
-        for table, ours in figures.library.items() for call in counted_on(table) if asked(call)}
+def ratios(figures: Figures) -> Dict[str, float]:
+    """The instructions over those of the C program, of each call on each table."""
+    return {f"{MEASURED.get(call, call)}, {table}": ours.counts[call] / figures.plain[table].counts[call]
+            for table, ours in figures.library.items() for call in counted_on(table)}
 
 
 def counts(table: str, *calls: str) -> Callable[[Figures], Dict[str, float]]:
@@ -81,13 +81,16 @@ def more_for_note(figures: Figures) -> Dict[str, float]:
             for table, ours in figures.library.items() for call in LOADS}
 
 
-def beyond(figures: Figures) -> Dict[str, float]:
-    return {table: ours.counts[BEYOND] for table, ours in figures.library.items() if BEYOND in counted_on(table)}
+def beyond_at(level: int) -> Callable[[Figures], Dict[str, float]]:
+    """The instructions of exact readings beyond the table check where the quarter square that holds the point has this
+    level."""
+    return lambda figures: {f"{title}, {table}": figures.library[table].counts[title] for table, t in tables()
+                            for call, title in beyond_on(table).items() if level_at(t, call) == level}
 
 
 def stacks(figures: Figures) -> Dict[str, float]:
     return {f"{MEASURED[call]}, {table}": ours.stacks[call]
-            for table, ours in figures.library.items() for call in calls_on(table)}
+            for table, ours in figures.library.items() for call in stacked_on(table)}
 
 
 def corners(figures: Figures) -> Dict[str, float]:
@@ -95,10 +98,8 @@ def corners(figures: Figures) -> Dict[str, float]:
 
 
 BARS = {
-    "ratio": Bar("instructions over those of the C program, of a call but of files, and of an exact reading beyond the "
-                 "table check", RATIO, ratios(lambda call: call not in OF_FILES)),
-    "ratio of files": Bar("instructions over those of the C program, of file reading, by either loader, and of file "
-                          "writing", RATIO_OF_FILES, ratios(lambda call: call in OF_FILES)),
+    "ratio": Bar("instructions over those of the C program, of a call, and of an exact reading beyond the table check",
+                 RATIO, ratios),
     "check": Bar(f"instructions of the table check, {LARGEST}", CHECK, counts(LARGEST, "table_cause")),
     "unrefined": Bar(f"instructions of the table check, {UNREFINED}", CHECK_UNREFINED,
                      counts(UNREFINED, "table_cause")),
@@ -110,7 +111,9 @@ BARS = {
     "note": Bar("instructions of file reading beyond those before files had notes, by either loader, of a file with a "
                 "note or without", MORE_FOR_NOTE, more_for_note),
     "file writing": Bar("instructions of writing the largest file", FILE_WRITING, counts(LARGEST_FILE, *WRITES)),
-    "beyond": Bar("instructions of an exact reading beyond the table check", READING_BEYOND_CHECK, beyond),
+    **{f"level {level}": Bar("instructions of an exact reading beyond the table check, at a point whose quarter square "
+                             f"has level {level}", most, beyond_at(level))
+       for level, most in enumerate(BEYOND_AT_LEVEL)},
     "stack": Bar("bytes of stack of a call", STACK, stacks),
     "corners": Bar("instructions of the corner program over those of reading its file, the largest", CORNERS, corners),
 }

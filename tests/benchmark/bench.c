@@ -1,7 +1,7 @@
-/* Makes each call once on a table, its files, with counts, without, and with counts and a note, and that note, given on
-   standard input: of the library (PREFIX kiln_) or of plain C (plain_). Run as `bench count` under callgrind it leaves
-   one dump for each call, named like it; run as `bench stack` it prints the bytes of stack of each call, as
-   `bench time` the nanoseconds of each call. With names of calls after that it makes those calls only. */
+/* Makes each call once on a table, its files, with counts, without, and with counts and a note, that note, and points
+   to read at, given on standard input: of the library (PREFIX kiln_) or of plain C (plain_). Run as `bench count` under
+   callgrind it leaves one dump for each call, named like it; run as `bench stack` it prints the bytes of stack of each
+   call, as `bench time` the nanoseconds of each call. With names of calls after that it makes those calls only. */
 #include "plain.h"
 
 #include <pthread.h>
@@ -17,8 +17,14 @@ static uint8_t tree[1365], out[4489], tree_out[1365], file[32376], uncounted[323
 static uint8_t file_out[32443];
 static int64_t numbers[6196], numbers_out[6196];
 
+/* Where it reads: all readings at the first, the exact one at each. */
+static struct point {
+  size_t u, v;
+} points[3];
+enum { POINTS = sizeof points / sizeof *points };
+
 /* What the calls give beside a refusal number. */
-static uint8_t level, noted;
+static uint8_t least, greatest, noted;
 static size_t amount, wide, high, note_at, note_size;
 
 static unsigned nothing(void) {
@@ -30,7 +36,13 @@ static unsigned table_cause(void) {
 }
 
 static unsigned least_level(void) {
-  return CALL(least_level)(w, h, tree, tree_len, 0, 0, 4 * w, 4 * h, &level, &amount);
+  return CALL(least_level)(w, h, tree, tree_len, 0, 0, 4 * w, 4 * h, &least, &greatest, &amount);
+}
+
+/* Under the quarter square that holds the point of the readings, as a display asks that draws a dot there. */
+static unsigned least_at(void) {
+  size_t q = points[0].u / 32, r = points[0].v / 32;
+  return CALL(least_level)(w, h, tree, tree_len, q, r, q + 1, r + 1, &least, &greatest, &amount);
 }
 
 static unsigned activity(void) {
@@ -55,19 +67,27 @@ static int64_t whole;
 static double watts_read;
 
 static unsigned exact(void) {
-  return CALL(exact)(w, h, tree, tree_len, numbers, numbers_len, 64 * w + 5, 64 * h + 7, &whole);
+  return CALL(exact)(w, h, tree, tree_len, numbers, numbers_len, points[0].u, points[0].v, &whole);
+}
+
+static unsigned exact_1(void) {
+  return CALL(exact)(w, h, tree, tree_len, numbers, numbers_len, points[1].u, points[1].v, &whole);
+}
+
+static unsigned exact_2(void) {
+  return CALL(exact)(w, h, tree, tree_len, numbers, numbers_len, points[2].u, points[2].v, &whole);
 }
 
 static unsigned watts(void) {
-  return CALL(watts)(w, h, tree, tree_len, numbers, numbers_len, 64 * w + 5, 64 * h + 7, &watts_read);
+  return CALL(watts)(w, h, tree, tree_len, numbers, numbers_len, points[0].u, points[0].v, &watts_read);
 }
 
 static unsigned display(void) {
-  return CALL(display)(w, h, tree, tree_len, numbers, numbers_len, 64 * w + 5, 64 * h + 7, &whole);
+  return CALL(display)(w, h, tree, tree_len, numbers, numbers_len, points[0].u, points[0].v, &whole);
 }
 
 static unsigned cost(void) {
-  return CALL(cost)(w, h, tree, tree_len, numbers, numbers_len, 64 * w + 5, 64 * h + 7, 1500, &amount);
+  return CALL(cost)(w, h, tree, tree_len, numbers, numbers_len, points[0].u, points[0].v, 1500, &amount);
 }
 
 static unsigned read_file(void) {
@@ -109,9 +129,9 @@ struct call {
 };
 
 static const struct call calls[] = {
-  {"nothing", nothing}, {"table_cause", table_cause}, {"least_level", least_level}, {"activity", activity},
-  {"fresh", fresh}, {"set", set},
-  {"insert", insert}, {"exact", exact}, {"watts", watts}, {"display", display}, {"cost", cost},
+  {"nothing", nothing}, {"table_cause", table_cause}, {"least_level", least_level}, {"least_at", least_at},
+  {"activity", activity}, {"fresh", fresh}, {"set", set}, {"insert", insert},
+  {"exact", exact}, {"exact_1", exact_1}, {"exact_2", exact_2}, {"watts", watts}, {"display", display}, {"cost", cost},
   {"read_file", read_file}, {"read_uncounted", read_uncounted}, {"read_noted", read_noted},
   {"read_bench", read_bench}, {"bench_noted", bench_noted}, {"write_file", write_file}, {"write_noted", write_noted},
 };
@@ -197,7 +217,14 @@ static bool get_file(uint8_t *to, size_t most, size_t *n) {
   return scanf("%zu", n) == 1 && *n <= most && get_bytes(to, *n);
 }
 
-/* Reads the table, its files and the note. */
+/* Reads the points, which must be as many. */
+static bool get_points(void) {
+  for (size_t k = 0; k < POINTS; k++)
+    if (scanf("%zu %zu", &points[k].u, &points[k].v) != 2) return false;
+  return scanf("%*s") == EOF;
+}
+
+/* Reads the table, its files, the note and the points. */
 static bool get_input(void) {
   if (scanf("%zu %zu %zu", &w, &h, &tree_len) != 3 || tree_len > sizeof tree) return false;
   if (!get_bytes(tree, tree_len)) return false;
@@ -205,7 +232,7 @@ static bool get_input(void) {
   for (size_t i = 0; i < numbers_len; i++)
     if (scanf("%ld", &numbers[i]) != 1) return false;
   return get_file(file, sizeof file, &file_len) && get_file(uncounted, sizeof uncounted, &uncounted_len)
-    && get_file(with_note, sizeof with_note, &with_note_len) && get_file(note, sizeof note, &note_len);
+    && get_file(with_note, sizeof with_note, &with_note_len) && get_file(note, sizeof note, &note_len) && get_points();
 }
 
 int main(int argc, char **argv) {

@@ -14,13 +14,19 @@ from typing import Callable, Iterator, List, Tuple
 sys.dont_write_bytecode = True
 
 import bars
-from measure import BEYOND, CALLS, LARGEST, LARGEST_FILE, MEASURED, READ, READ_UNCOUNTED, READINGS, ROOT, UNREFINED
-from measure import Figures, Measured, all_figures, calls_on, counted_on, table_names
+from measure import BEYONDS, CALLS, EXACT, EXACT_1, EXACT_2, LARGEST, LARGEST_FILE, MEASURED, READ, READ_UNCOUNTED
+from measure import READINGS, ROOT, UNREFINED, Figures, Measured, all_figures, calls_on, counted_on, stacked_on
+from measure import table_names
 
 PAGE, HEADER = ROOT / "docs/BENCHMARKS.md", ROOT / "include/kiln.h"
 # What reads a file, and what writes one, named here again.
 READ_BY = (READ, READ_UNCOUNTED, "read_noted", "read_bench", "bench_noted")
 WRITTEN = ("write_file", "write_noted")
+# The level of the quarter square at which an exact reading is taken, by the kind of table. On a fully split one the
+# level of quarter (q, r) is q % 2 + r % 2, and the points lie in quarters (2 W, 2 H), (2 W + 1, 2 H) and
+# (2 W + 1, 2 H + 1).
+LEVELS = {"unrefined": {EXACT: 0, EXACT_1: 0, EXACT_2: 0}, "fully split": {EXACT: 0, EXACT_1: 1, EXACT_2: 2},
+          "all of level 3": {EXACT: 3}}
 # The bar's name, where its figure is taken, made-up figures of which that one is so far past the bar, and the names of
 # lower bars of the same figure, which it is past by then.
 Push = Tuple[str, str, Callable[[int], Figures], Tuple[str, ...]]
@@ -32,7 +38,7 @@ def made_up(table: str = "", call: str = "", ours: int = 100, theirs: int = 100,
     def on(name: str, count: int) -> Measured:
         this = {call} if name == table else set()
         return Measured({one: count if one in this else 100 for one in counted_on(name)},
-                        {one: stack if one in this else 100 for one in calls_on(name)}, {})
+                        {one: stack if one in this else 100 for one in stacked_on(name)}, {})
     names = table_names()
     return Figures({name: on(name, ours) for name in names}, {name: on(name, theirs) for name in names}, corners)
 
@@ -58,9 +64,8 @@ def pushes() -> Iterator[Push]:
     """Every figure that a bar is held of, by itself: no code of bars.py says which these are."""
     for table in table_names():
         for call in calls_on(table):
-            of_files = call in READ_BY + WRITTEN
-            name, bar = ("ratio of files", bars.RATIO_OF_FILES) if of_files else ("ratio", bars.RATIO)
-            yield name, f"{MEASURED[call]}, {table}", partial(by_ratio, table, call, bar), ()
+            yield "ratio", f"{MEASURED[call]}, {table}", partial(by_ratio, table, call, bars.RATIO), ()
+        for call in stacked_on(table):
             yield "stack", f"{MEASURED[call]}, {table}", partial(by_stack, table, call), ()
         for call in (READ, READ_UNCOUNTED):
             bar = bars.READ_BEFORE_COUNTS[table] + bars.MORE_FOR_COUNTS
@@ -68,9 +73,10 @@ def pushes() -> Iterator[Push]:
         for call in READ_BY:
             bar = bars.READ_BEFORE_NOTE[table][call == READ_UNCOUNTED] + bars.MORE_FOR_NOTE
             yield "note", f"{MEASURED[call]}, {table}", partial(by_count, table, call, bar), ()
-        if BEYOND in counted_on(table):
-            yield "ratio", f"{BEYOND}, {table}", partial(by_ratio, table, BEYOND, bars.RATIO), ()
-            yield "beyond", table, partial(by_count, table, BEYOND, bars.READING_BEYOND_CHECK), ()
+        for call, level in LEVELS[table.partition(", ")[2]].items():
+            beyond, most = BEYONDS[call], bars.BEYOND_AT_LEVEL[level]
+            yield "ratio", f"{beyond}, {table}", partial(by_ratio, table, beyond, bars.RATIO), ()
+            yield f"level {level}", f"{beyond}, {table}", partial(by_count, table, beyond, most), ()
     for name, table, call, bar in (
             ("check", LARGEST, "table_cause", bars.CHECK),
             ("unrefined", UNREFINED, "table_cause", bars.CHECK_UNREFINED),
@@ -105,13 +111,13 @@ def self_test() -> List[str]:
     if len(tried) != bars.compared(made_up()):
         faults.append(f"self test: {len(tried)} figures were put past a bar, {bars.compared(made_up())} are compared")
     for table in table_names():
-        for call in calls_on(table):
-            for part in ("counts", "stacks"):
+        for part, held in (("counts", counted_on(table)), ("stacks", stacked_on(table))):
+            for call in held:
                 figures = made_up()
                 del getattr(figures.library[table], part)[call]
                 try:
                     bars.missed(figures)
-                    faults.append(f"self test: {MEASURED[call]}, {table}: nobody misses its {part}")
+                    faults.append(f"self test: {call}, {table}: nobody misses its {part}")
                 except KeyError:
                     pass
     return faults

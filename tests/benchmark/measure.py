@@ -21,25 +21,36 @@ sys.path += [str(ROOT / "tests/evaluator"), str(ROOT / "tests/differential")]
 import samples
 import tablefile
 from library import archive, corner_program
-from surface import total_places
+from surface import QUARTERS_PER_CELL, STEPS_PER_CELL, total_places
+from tree import level_map
 
 # The calls by their names without kiln_, as bench.c has them.
 READINGS = {"exact": "Exact reading", "watts": "Reading as f64", "display": "Display", "cost": "Cost"}
 CALLS = {"table_cause": "Table check", "least_level": "Least level", "activity": "Activity", "fresh": "Fresh table",
          "set": "Set", "insert": "Insertion", **READINGS, "read_file": "File reading", "read_bench": "Bench reading",
          "write_file": "File writing"}
-# What is measured: each call, those of files with counts and no note; file reading without counts too, and reading by
-# both loaders and writing with a note.
+# What is measured: each call, those of files with counts and no note; the least level under the point's quarter square
+# too, the exact reading at two points more, file reading without counts, and reading by both loaders and writing with a
+# note.
+CHECKED, LEAST_AT = "table_cause", "least_at"
+EXACT, EXACT_1, EXACT_2 = "exact", "exact_1", "exact_2"
+AT_LEVEL = {EXACT_1: ", at a point of level 1 of a split table", EXACT_2: ", at a point of level 2 of a split table"}
 READ, READ_UNCOUNTED, READ_NOTED = "read_file", "read_uncounted", "read_noted"
 BENCH, BENCH_NOTED = "read_bench", "bench_noted"
 WRITE, WRITE_NOTED = "write_file", "write_noted"
 LOADS, WRITES = (READ, READ_UNCOUNTED, READ_NOTED, BENCH, BENCH_NOTED), (WRITE, WRITE_NOTED)
-MEASURED = {**CALLS, READ_UNCOUNTED: "File reading, without counts", READ_NOTED: "File reading, with a note",
+MEASURED = {**CALLS, LEAST_AT: "Least level, under a point",
+            **{call: READINGS[EXACT] + where for call, where in AT_LEVEL.items()},
+            READ_UNCOUNTED: "File reading, without counts", READ_NOTED: "File reading, with a note",
             BENCH_NOTED: "Bench reading, with a note", WRITE_NOTED: "File writing, with a note"}
 OF_FILES = LOADS + WRITES
 # The longest note.
 NOTE = bytes(range(64, 128))
+# What an exact reading takes beyond the table check, by the reading; and the point of each, from (64 W, 64 H) on: the
+# readings but the exact one are taken at the first.
 BEYOND = "Exact reading beyond the table check"
+BEYONDS = {EXACT: BEYOND, **{call: BEYOND + where for call, where in AT_LEVEL.items()}}
+POINTS = {EXACT: (5, 7), EXACT_1: (37, 7), EXACT_2: (37, 39)}
 SIZES, TURNS = (1, 4, 8), 3
 LARGEST, UNREFINED, LARGEST_FILE = "8 by 8, fully split", "8 by 8, unrefined", "8 by 8, all of level 3"
 
@@ -90,9 +101,32 @@ def calls_on(table: str) -> Tuple[str, ...]:
     return OF_FILES if table == LARGEST_FILE else tuple(MEASURED)
 
 
+def beyond_on(table: str) -> Dict[str, str]:
+    """The exact readings that are measured beyond the table check: on that of the largest file one, which is of level 3
+    all over."""
+    return {EXACT: BEYOND} if table == LARGEST_FILE else BEYONDS
+
+
 def counted_on(table: str) -> Tuple[str, ...]:
-    """What has a count on a table: its calls, and where all are made the exact reading beyond the table check."""
-    return calls_on(table) + (() if table == LARGEST_FILE else (BEYOND,))
+    """What has a count on a table: its calls, and the exact readings beyond the table check."""
+    return (*calls_on(table), *beyond_on(table).values())
+
+
+def stacked_on(table: str) -> Tuple[str, ...]:
+    """The calls whose stack is measured on a table: its calls, and on that of the largest file the readings too."""
+    return (*OF_FILES, *READINGS) if table == LARGEST_FILE else calls_on(table)
+
+
+def point_of(t: samples.Table, call: str) -> Tuple[int, int]:
+    """Where an exact reading of a table is taken."""
+    u, v = POINTS[call]
+    return STEPS_PER_CELL * t.w // 2 + u, STEPS_PER_CELL * t.h // 2 + v
+
+
+def level_at(t: samples.Table, call: str) -> int:
+    """The level of the quarter square that holds that point, which is on no edge."""
+    u, v = (steps * QUARTERS_PER_CELL // STEPS_PER_CELL for steps in point_of(t, call))
+    return level_map(t.tree, t.w, t.h)[v][u]
 
 
 def file_of(t: samples.Table, call: str) -> bytes:
@@ -102,10 +136,12 @@ def file_of(t: samples.Table, call: str) -> bytes:
 
 
 def told(t: samples.Table) -> str:
-    """A table, its files, with counts, without, and with counts and a note, and the note, as the program reads them."""
+    """A table, its files, with counts, without, and with counts and a note, the note, and the points to read at, as the
+    program reads them."""
     files = [*(file_of(t, call) for call in (READ, READ_UNCOUNTED, READ_NOTED)), NOTE]
     return " ".join(map(str, [t.w, t.h, len(t.tree), *t.tree, len(t.coefficients), *t.coefficients,
-                              *(part for file in files for part in (len(file), *file))]))
+                              *(part for file in files for part in (len(file), *file)),
+                              *(steps for call in POINTS for steps in point_of(t, call))]))
 
 
 def built(name: str, *given: str) -> str:
@@ -140,8 +176,7 @@ def counted(program: str, text: str, *call: str) -> Dict[str, int]:
                 counts[name.group(1)] = int(re.search(r"^summary: (\d+)$", words, re.M).group(1))
     nothing = counts.pop("nothing")
     counts = {name: count - nothing for name, count in counts.items()}
-    if not call:
-        counts[BEYOND] = counts["exact"] - counts["table_cause"]
+    counts.update({title: counts[one] - counts[CHECKED] for one, title in BEYONDS.items() if one in counts})
     return counts
 
 
@@ -168,10 +203,13 @@ def all_figures(with_times: bool) -> Figures:
     both, made = programs(), tables()
     figures = Figures({}, {}, corners(dict(made)[LARGEST_FILE]))
     for name, t in made:
-        only = calls_on(name) if name == LARGEST_FILE else ()
+        only, stacked = (calls_on(name), stacked_on(name)) if name == LARGEST_FILE else ((), ())
         text = told(t)
         times = timed(both, text, *only) if with_times else ({}, {})
         for of, program, spent in zip((figures.library, figures.plain), both, times):
-            stacks = {call: int(n) for call, n in said(program, "stack", text, *only).items()}
-            of[name] = Measured(counted(program, text, *only), stacks, spent)
+            stacks = {call: int(n) for call, n in said(program, "stack", text, *stacked).items()}
+            counts = counted(program, text, *only)
+            if BEYOND not in counts:
+                counts[BEYOND] = counted(program, text, CHECKED, EXACT)[BEYOND]
+            of[name] = Measured(counts, stacks, spent)
     return figures

@@ -15,7 +15,7 @@
 uint8_t CALL(table_cause)(size_t w, size_t h, const uint8_t *tree, size_t tree_len, const int64_t *numbers,
                           size_t numbers_len);
 uint8_t CALL(least_level)(size_t w, size_t h, const uint8_t *tree, size_t tree_len, size_t u0, size_t v0, size_t u1,
-                          size_t v1, uint8_t *level, size_t *visited);
+                          size_t v1, uint8_t *least, uint8_t *greatest, size_t *visited);
 uint8_t CALL(activity)(size_t w, size_t h, const uint8_t *tree, size_t tree_len, size_t level, uint8_t *out,
                        size_t out_len);
 uint8_t CALL(fresh)(size_t w, size_t h, int64_t number, uint8_t *tree_out, size_t tree_len, int64_t *numbers_out,

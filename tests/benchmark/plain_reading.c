@@ -12,6 +12,19 @@ static size_t cell_of(size_t n, size_t level, size_t u) {
   return cell < last ? cell : last;
 }
 
+/* The quarter along one side that holds a place: the greater on a shared edge, at the far edge the last one. */
+static size_t quarter_of(size_t n, size_t u) {
+  size_t q = u / 32, last = 4 * n - 1;
+  return q < last ? q : last;
+}
+
+/* The level of a quarter square: in how many regions it lies, since they are nested. */
+static size_t level_of(const struct regions *regions, size_t q, size_t r) {
+  size_t level = 0;
+  for (size_t l = 0; l < LEVELS - 1; l++) level += regions->row[l][r] >> q & 1;
+  return level;
+}
+
 /* The patch of level 0: its own coefficients, in rows of n. */
 static patch coarsest(const int64_t *numbers, size_t n, size_t a, size_t b) {
   patch p;
@@ -45,19 +58,19 @@ static patch finer(patch coarse, const int64_t *numbers, const struct regions *r
   return next;
 }
 
-/* The four splines at r steps into a cell of 16, as whole numbers that add up to 24,576. */
-static void splines_at(int64_t r, int64_t spline[4]) {
-  int64_t q = 16 - r, a = q * q * q, x = r * r * q, y = r * q * q, d = r * r * r;
+/* The four splines at r steps into a cell of so many, as whole numbers that add up to 6 times the cube of those. */
+static void splines_at(int64_t steps, int64_t r, int64_t spline[4]) {
+  int64_t q = steps - r, a = q * q * q, x = r * r * q, y = r * q * q, d = r * r * r;
   spline[0] = a;
   spline[1] = d + 6 * x + 12 * y + 4 * a;
   spline[2] = 4 * d + 12 * x + 6 * y + a;
   spline[3] = d;
 }
 
-static int64_t evaluate(patch p, size_t r, size_t s) {
+static int64_t evaluate(patch p, size_t steps, size_t r, size_t s) {
   int64_t across[4], along_v[4], sum = 0;
-  splines_at((int64_t)r, across);
-  splines_at((int64_t)s, along_v);
+  splines_at((int64_t)steps, (int64_t)r, across);
+  splines_at((int64_t)steps, (int64_t)s, along_v);
   for (size_t k = 0; k < 4; k++) {
     int64_t row = 0;
     for (size_t l = 0; l < 4; l++) row += along_v[l] * p.at[k][l];
@@ -66,16 +79,18 @@ static int64_t evaluate(patch p, size_t r, size_t s) {
   return sum;
 }
 
-/* The exact reading over D = 36 × 2^42 after causes 1 to 6. */
+/* The exact reading over D = 36 × 2^42 after causes 1 to 6. It stops subdividing at the level of the quarter square
+   that holds the point. D is the same at each level: steps of a cell halve, and units are 64 times finer. */
 static uint8_t read_point(size_t w, size_t h, const uint8_t *tree, size_t tree_len, const int64_t *numbers,
                           size_t numbers_len, size_t u, size_t v, int64_t *numerator) {
   struct regions regions;
   uint8_t cause = check(w, h, tree, tree_len, numbers, numbers_len, &regions);
   if (cause) return cause;
   if (u > 128 * w || v > 128 * h) return OFF_SHEET;
+  size_t last = level_of(&regions, quarter_of(w, u), quarter_of(h, v)), steps = 128 >> last;
   patch p = coarsest(numbers, functions(w, 0), cell_of(w, 0, u), cell_of(h, 0, v));
-  for (size_t level = 1; level < LEVELS; level++) p = finer(p, numbers, &regions, w, h, level, u, v);
-  *numerator = evaluate(p, u - 16 * cell_of(w, 3, u), v - 16 * cell_of(h, 3, v));
+  for (size_t level = 1; level <= last; level++) p = finer(p, numbers, &regions, w, h, level, u, v);
+  *numerator = evaluate(p, steps, u - steps * cell_of(w, last, u), v - steps * cell_of(h, last, v));
   return 0;
 }
 

@@ -44,19 +44,25 @@ uint8_t plain_table_cause(size_t w, size_t h, const uint8_t *tree, size_t tree_l
 }
 
 struct found {
-  uint8_t least;
+  uint8_t least, greatest;
   size_t visited;
 };
 
-/* Visits the tree written from `at` on, and returns its end; subtrees away from the box are walked to find their ends,
-   but not visited. */
+/* The end of the tree written from `at` on: a node ends one of the trees left to read, or begins four. */
+static const uint8_t *skip(const uint8_t *at) {
+  for (size_t left = 1; left > 0;) left = *at++ == SPLIT ? left + 3 : left - 1;
+  return at;
+}
+
+/* Visits the tree written from `at` on where its square shares area with the box, and returns its end. */
 static const uint8_t *visit(const uint8_t *at, size_t x, size_t y, size_t side, const struct box *box,
                             struct found *found) {
-  bool here = meets(box, x, y, side);
+  if (!meets(box, x, y, side)) return skip(at);
   uint8_t byte = *at++;
-  if (here) found->visited++;
+  found->visited++;
   if (byte != SPLIT) {
-    if (here && byte < found->least) found->least = byte;
+    if (byte < found->least) found->least = byte;
+    if (byte > found->greatest) found->greatest = byte;
     return at;
   }
   size_t half = side / 2;
@@ -67,15 +73,16 @@ static const uint8_t *visit(const uint8_t *at, size_t x, size_t y, size_t side, 
 }
 
 uint8_t plain_least_level(size_t w, size_t h, const uint8_t *tree, size_t tree_len, size_t u0, size_t v0, size_t u1,
-                          size_t v1, uint8_t *level, size_t *visited) {
+                          size_t v1, uint8_t *least, uint8_t *greatest, size_t *visited) {
   struct regions regions;
   struct box box = {u0, v0, u1, v1};
-  struct found found = {LEAF_MAX, 0};
+  struct found found = {LEAF_MAX, 0, 0};
   uint8_t cause = region_cause(w, h, tree, tree_len, &regions);
   if (cause) return cause;
   if (bad_box(w, h, &box)) return BAD_BOX;
   visit(tree, 0, 0, QUARTERS, &box, &found);
-  *level = found.least;
+  *least = found.least;
+  *greatest = found.greatest;
   *visited = found.visited;
   return 0;
 }

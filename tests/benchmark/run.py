@@ -14,7 +14,7 @@ from typing import Dict, List
 sys.dont_write_bytecode = True
 
 import bars
-from measure import BEYOND, CALLS, LARGEST_FILE, MEASURED, OF_FILES, READ, ROOT, Figures, Measured, all_figures
+from measure import BEYONDS, CALLS, LARGEST_FILE, MEASURED, OF_FILES, READ, ROOT, Figures, Measured, all_figures
 from measure import file_of, tables
 
 
@@ -33,11 +33,15 @@ def paragraphs() -> List[str]:
         f"gcc {gcc} -O2. Beside them the microseconds of one call on {processor()}, processor's time, the least of "
         "many rounds that both programs made by turns. In that directory `run.py` makes this page, whose figures are "
         "those of the day it was made, and `check_plain.py` holds the C program to the evaluator.",
-        "The least level is asked over the whole sheet, the activity of level 3; one coefficient of level 0 is set; "
-        "the whole sheet is raised to level 3; readings are taken at (64 W + 5, 64 H + 7), the tariff is 1,500; the "
-        "file that is read and written is the table's, with its counts and no note; it is read without the counts too, "
-        "and read by both loaders and written with a note of 64 bytes. The largest is that of 8 by 8 with the tree 3, "
-        "22,445 bytes of coefficients. "
+        "The least level, with the greatest, is asked over the whole sheet, and under the quarter square that holds "
+        "the point of the readings; the activity of level 3; one coefficient of level 0 is set; the whole sheet is "
+        "raised to level 3; readings are taken at (64 W + 5, 64 H + 7), in a quarter square of level 0; the exact one "
+        "also at (64 W + 37, 64 H + 7) and at (64 W + 37, 64 H + 39), which on the fully split tables lie in quarter "
+        "squares of level 1 and of level 2, and on the unrefined ones of level 0; the exact reading beyond the table "
+        "check and the stack of readings also where all is of level 3; the tariff is 1,500; the file that is read and "
+        "written is the table's, with its counts and no note; it is read without the counts too, and read by both "
+        "loaders and written with a note of 64 bytes. The largest is that of 8 by 8 with the tree 3, 22,445 bytes of "
+        "coefficients. "
         "Callgrind counts each repetition of a rep instruction, so on both sides memory is filled and copied without. "
         "No call allocates.",
     ]
@@ -63,7 +67,8 @@ def call_table(call: str, title: str, figures: Figures) -> List[str]:
     of_file = call in OF_FILES
     bytes_of = "file" if of_file else "tree"
     head = f"| table | {bytes_of} bytes | library | C | ratio |"
-    if call != BEYOND:
+    timed = call in MEASURED
+    if timed:
         head += " library, µs | C, µs | ratio |"
     lines = ["", f"## {title}", "", head, "|---" * head.count(" | ") + "|---|"]
     for name, t in tables():
@@ -73,7 +78,7 @@ def call_table(call: str, title: str, figures: Figures) -> List[str]:
         ours, theirs = library.counts[call], plain.counts[call]
         size = len(file_of(t, call) if of_file else t.tree)
         line = f"| {name} | {size:,} | {ours:,} | {theirs:,} | {ours / theirs:.2f} |"
-        if call != BEYOND:
+        if timed:
             ours, theirs = library.times[call], plain.times[call]
             line += f" {ours / 1_000:.2f} | {theirs / 1_000:.2f} | {ours / theirs:.2f} |"
         lines.append(line)
@@ -89,7 +94,7 @@ def page(figures: Figures) -> str:
     for words in paragraphs():
         lines += ["", fill(words, 116, break_on_hyphens=False)]
     lines += bar_table(figures)
-    for call, title in (*MEASURED.items(), (BEYOND, BEYOND)):
+    for call, title in (*MEASURED.items(), *((beyond, beyond) for beyond in BEYONDS.values())):
         lines += call_table(call, title, figures)
     lines += ["", "## Stack", "", "Bytes of stack down to the lowest that one call changes, the greatest over these "
               "tables.", "", "| call | library | C |", "|---|---|---|"]

@@ -84,10 +84,11 @@ def damaged(rng: Random, t: samples.Table) -> samples.Table:
 
 
 def box(rng: Random, w: int, h: int) -> Tuple[int, int, int, int]:
-    """A box inside or the whole sheet; else reversed, with no area, past the sheet by one or by far, along u or v."""
+    """A box inside, a quarter of it, or the whole sheet; else reversed, with no area, past the sheet by one or by far,
+    along u or v."""
     wide, high = 4 * (min(w, 8) or 1), 4 * (min(h, 8) or 1)
     u0, v0, u1, v1 = samples.random_box(rng, wide // 4, high // 4)
-    return rng.choice(((u0, v0, u1, v1),) * 10 + (
+    return rng.choice(((u0, v0, u1, v1),) * 10 + ((u0, v0, u0 + 1, v0 + 1), (u1 - 1, v1 - 1, u1, v1)) * 2 + (
         (u1, v0, u0, v1), (u0, v1, u1, v0), (u0, v0, u0, v1), (u0, v0, u1, v0), (u0, v0, wide + 1, v1),
         (u0, v0, u1, high + 1), (0, 0, wide, high), (0, 0, 32, 32), (2**64 - 1, 0, 2**63, 1),
         (0, 2**64 - 1, 1, 2**63), (0, 0, 2**32 + wide, high), (0, 0, wide, 2**32 + high)))
@@ -147,8 +148,14 @@ def _steps(rng: Random, side: int) -> int:
     return rng.choice(inside * 2 + (0, end, end, end + 1, rng.choice((2**63, 2**64 - 1, end + 128, 2**32))))
 
 
+def _at_edge(rng: Random, side: int) -> int:
+    """A place along one side on an edge of quarters, the far one included, or a step beside it."""
+    side = min(side, 8) or 1
+    return min(max(32 * rng.randint(0, 4 * side) + rng.choice((-1, 0, 0, 1)), 0), 128 * side)
+
+
 def point(rng: Random, w: int, h: int) -> Tuple[int, int]:
-    along = _beside if rng.random() < 0.25 else _steps
+    along = rng.choice((_beside, _at_edge, _steps, _steps))
     return along(rng, w), along(rng, h)
 
 

@@ -5,7 +5,7 @@ What is due is worked by hand where it is written out, and else the unrelated ev
 from __future__ import annotations
 
 from random import Random
-from typing import Callable, Iterator, List, Sequence, Tuple
+from typing import Iterator, List, Sequence, Tuple
 
 import insertions
 from cases import calls, quadtree, samples
@@ -72,7 +72,7 @@ def boxes(lib: Library) -> Iterator[str]:
     for w, h in ((1, 1), (2, 3), (8, 7), (8, 8)):
         wide, high = 4 * w, 4 * h
         t = fresh_table(w, h, 5)
-        yield differ("whole sheet", lib.least_level(w, h, octets([0]), (0, 0, wide, high)), ("ok", 0, 1))
+        yield differ("whole sheet", lib.least_level(w, h, octets([0]), (0, 0, wide, high)), ("ok", 0, 0, 1))
         for box in ((0, 0, wide + 1, high), (0, 0, wide, high + 1), (wide, 0, wide + 1, 1), (0, high, 1, high + 1),
                     (0, 0, wide + 3, 1), (0, 0, 1, high + 3), (2, 1, 1, 2), (1, 2, 2, 1), (1, 0, 0, 1), (0, 1, 1, 0),
                     (wide, 0, 0, high), (0, high, wide, 0), (1, 0, 1, 1), (0, 1, 1, 1), (0, 0, 0, high),
@@ -124,10 +124,6 @@ def limits(lib: Library) -> Iterator[str]:
                 yield differ(f"cost, {told}", lib.cost(*lent(t), *point, 99_999), ("ok", due))
 
 
-def _map_of(level: Callable[[int, int], int]) -> LevelMap:
-    return tuple(tuple(level(u, v) for u in range(TREE_SIDE)) for v in range(TREE_SIDE))
-
-
 def largest(rng: Random) -> List[LevelMap]:
     """Maps of the largest tree, 1,365 bytes: a checkerboard, all levels, and level 3 but for a square in each four."""
     lower = {(u, v): rng.randrange(4) for u in range(0, TREE_SIDE, 2) for v in range(0, TREE_SIDE, 2)}
@@ -135,7 +131,7 @@ def largest(rng: Random) -> List[LevelMap]:
     def mostly_3(u: int, v: int) -> int:
         return 3 - (lower[u - u % 2, v - v % 2] == u % 2 + 2 * (v % 2)) * (1 + (u // 8 + v // 8) % 3)
 
-    return [_map_of(lambda u, v: (u + v) % 2), _map_of(lambda u, v: (u + 2 * v) % 4), _map_of(mostly_3)]
+    return [samples.levels_by(level) for level in (lambda u, v: (u + v) % 2, lambda u, v: (u + 2 * v) % 4, mostly_3)]
 
 
 def largest_tree(rng: Random, lib: Library) -> Iterator[str]:
@@ -225,7 +221,7 @@ def one_leaf(lib: Library) -> Iterator[str]:
     for leaf in (1, 2, 3):
         tree = octets([leaf])
         for box in ((0, 0, 32, 32), (0, 0, 1, 1), (31, 31, 32, 32), (3, 0, 4, 32), (0, 17, 32, 18)):
-            yield differ(f"least_level, leaf {leaf}", lib.least_level(8, 8, tree, box), ("ok", leaf, 1))
+            yield differ(f"least_level, leaf {leaf}", lib.least_level(8, 8, tree, box), ("ok", leaf, leaf, 1))
         for level in LEVELS:
             after = [int(level == leaf)] * place_count(8, 8, level)
             out = octets([9] * len(after))

@@ -12,6 +12,7 @@ import edges
 import files
 import insertions
 import noted_files
+import quarter_levels
 import saving
 from cases import samples
 from library import Library, differ, numbers, octets
@@ -81,12 +82,12 @@ def bench_sheet(lib: Library) -> List[str]:
         table("32,001 gives 4", 1, 1, FLAT, [0] * 15 + [32_001] + [0] * 195, "refused", 4),
         table("level 1: 2,048,000 accepted", 1, 1, REFINED, level_1, "ok"),
         table("level 1: 2,048,001 gives 4", 1, 1, REFINED, over, "refused", 4),
-        level("least level 1, 4 nodes", 1, 1, REFINED, WHOLE, "ok", 1, 4),
-        level("least level 0, 5 nodes", 2, 1, REFINED, (0, 0, 8, 4), "ok", 0, 5),
+        level("least level 1, 4 nodes", 1, 1, REFINED, WHOLE, "ok", 1, 1, 4),
+        level("least level 0, 5 nodes", 2, 1, REFINED, (0, 0, 8, 4), "ok", 0, 1, 5),
         level("box 0,0 to 5,4 gives 7", 1, 1, FLAT, (0, 0, 5, 4), "refused", 7),
         level("tree 4 0 0 0 0 gives 2", 8, 8, [4, 0, 0, 0, 0], WHOLE, "refused", 2),
         level("tree 1 on 1 by 1 gives 2", 1, 1, [1], WHOLE, "refused", 2),
-        level("tree 1 on 8 by 8 accepted", 8, 8, [1], WHOLE, "ok", 1, 1),
+        level("tree 1 on 8 by 8 accepted", 8, 8, [1], WHOLE, "ok", 1, 1, 1),
         marks("25 active on 1 by 1", 1, 1, REFINED, 1, ("ok",), [1] * 25),
         marks("16 active on 2 by 1, level 0", 2, 1, REFINED, 0, ("ok",), [0, 1, 1, 1, 1] * 4),
         marks("10 active on 2 by 1, level 1", 2, 1, REFINED, 1, ("ok",), ([1] * 2 + [0] * 5) * 5),
@@ -254,10 +255,10 @@ def whole_grids(rng: Random, lib: Library) -> List[str]:
 
 
 def faults(lib: Library, seed: int, grids: bool) -> List[str]:
-    """What is not as it should be in any fixed case, whole grids among them or not; the seed draws lists of insertions
-    and files."""
+    """What is not as it should be in any fixed case, whole grids among them or not; the seed draws lists of insertions,
+    tables and files, but nothing of the levels."""
     found = bench_sheet(lib) + bench_readings(lib) + bench_insertions(lib) + bench_files(lib)
-    found += two_faults_of_tables(lib) + two_faults_of_calls(lib)
+    found += two_faults_of_tables(lib) + two_faults_of_calls(lib) + quarter_levels.fixed(lib)
     if grids:
         found += whole_grids(Random(seed), lib)
     for part in (edges, files, counted_files, noted_files):

@@ -16,7 +16,7 @@ Held = Tuple[int, int, bytes, bytes]
 GUARD = 64
 EDGE = b"\x5A" * GUARD
 # What a scalar holds before a call: every byte is set, and no call gives that value.
-LEVEL_BEFORE, NOTED_BEFORE = 0xEE, 0xED
+LEAST_BEFORE, GREATEST_BEFORE, NOTED_BEFORE = 0xEE, 0xEC, 0xED
 SIZE_BEFORE = 0xE1E2_E3E4_E5E6_E7E8
 NUMBER_BEFORE = SIZE_BEFORE - 2**64
 # Below zero, no number, with a payload, and signalling: arithmetic on it or another "no number" in its place is seen.
@@ -218,8 +218,9 @@ class Library:
         return got
 
     def least_level(self, w: int, h: int, tree: Lent, box: Tuple[int, int, int, int]) -> Answer:
-        return self._call("least_level", size(w), size(h), tree, *map(size, box), Scalar("B", LEVEL_BEFORE),
-                          Scalar("Q", SIZE_BEFORE))
+        """The scalars receive the least level, the greatest and the nodes visited."""
+        return self._call("least_level", size(w), size(h), tree, *map(size, box), Scalar("B", LEAST_BEFORE),
+                          Scalar("B", GREATEST_BEFORE), Scalar("Q", SIZE_BEFORE))
 
     def activity(self, w: int, h: int, tree: Lent, level: int, out: Lent) -> Answer:
         return self._call("activity", size(w), size(h), tree, size(level), out)

@@ -41,7 +41,7 @@ static void *unknown(unsigned k) {
 static uint8_t make(const char *name) {
 #define IS(call) (strcmp(name, #call) == 0)
   if (IS(table_cause)) return kiln_table_cause(N(0), N(1), B(2), Q(3));
-  if (IS(least_level)) return kiln_least_level(N(0), N(1), B(2), N(3), N(4), N(5), N(6), ONE(7), ONE(8));
+  if (IS(least_level)) return kiln_least_level(N(0), N(1), B(2), N(3), N(4), N(5), N(6), ONE(7), ONE(8), ONE(9));
   if (IS(activity)) return kiln_activity(N(0), N(1), B(2), N(3), OUT(4));
   if (IS(fresh)) return kiln_fresh(N(0), N(1), I(2), OUT(3), OUT(4), ONE(5));
   if (IS(insert)) {

@@ -206,15 +206,14 @@ def activity(w: int, h: int, tree: Sequence[int], level: int, activity_out: Sequ
 
 
 # Document 01, Regions: 'The least level under a box comes with the number of tree nodes visited.'; 1, 2, 7.
-# Answer ('ok', least level, nodes visited); lent tree.
+# Document 02, Four: 'also gives the greatest level'. Answer ('ok', least, greatest, nodes visited); lent tree.
 def least_level(w: int, h: int, tree: Sequence[int], box: Box) -> Outcome:
     cause = judge_regions(w, h, tree)
     if cause is not None:
         return _after(refused(cause), tree=tree)
     if _box_refused(w, h, box):
         return _after(refused(7), tree=tree)
-    least, visited = quadtree.least_under(tree, box)
-    return _after(("ok", least, visited), tree=tree)
+    return _after(("ok", *quadtree.levels_under(tree, box)), tree=tree)
 
 
 # Document 01, Calls: the refusals of all readings, 1 to 6.

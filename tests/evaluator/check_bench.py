@@ -13,12 +13,14 @@ from typing import Callable, List, Sequence, Tuple
 
 import calls
 import file_cases
+import level_cases
 import note_cases
 import note_misreadings
 import note_properties
 import properties
 import samples
 import saved_files
+import stopping
 import tablefile
 import tree as quadtree
 from samples import Table, bench_s, columns_table, fresh_table, inserted
@@ -71,11 +73,11 @@ def starred(check: Check) -> None:
     check(active_count(1, 1, fine.tree, 1) == 25 and active_count(1, 1, fine.tree, 0) == 0, "S with a box: 25 active")
     check(level_part(fine, 1) == [-32_000, 0, 32_000, 64_000, 96_000] * 5, "S with a level 1 box: its columns")
     check(level_part(fine, 0) == [0] * 16 and level_part(fine, 2) == [0] * 49, "S with a level 1 box: passive places")
-    check(calls.least_level(1, 1, LEVEL_1_TREE, (0, 0, 4, 4)).answer == ("ok", 1, 4), "least level on 1 by 1")
+    check(calls.least_level(1, 1, LEVEL_1_TREE, (0, 0, 4, 4)).answer == ("ok", 1, 1, 4), "least level on 1 by 1")
     two = inserted(fresh_table(2, 1, 700), (0, 0, 4, 4), 1)
     check(two.tree == LEVEL_1_TREE, "2 by 1 with the same box: its tree")
     check([active_count(2, 1, two.tree, level) for level in LEVELS] == [16, 10, 0, 0], "2 by 1: 16 and 10 active")
-    check(calls.least_level(2, 1, two.tree, (0, 0, 8, 4)).answer == ("ok", 0, 5), "least level on 2 by 1")
+    check(calls.least_level(2, 1, two.tree, (0, 0, 8, 4)).answer == ("ok", 0, 1, 5), "least level on 2 by 1")
     check(sorted(set(level_part(two, 1))) == [0, 44_800], "2 by 1: 44,800 at level 1")
     points = samples.deciding_points(2, 1)
     check(calls.exact_at(*two, points) == [700 * D] * len(points), "700 watts at each point of 2 by 1")
@@ -84,7 +86,7 @@ def starred(check: Check) -> None:
     box = (0, 0, 1, 1)
     check(calls.least_level(8, 8, [4, 0, 0, 0, 0], box).answer == ("refused", 2), "tree 4 0 0 0 0")
     check(calls.least_level(1, 1, [1], box).answer == ("refused", 2), "tree 1 on 1 by 1")
-    check(calls.least_level(8, 8, [1], box).answer == ("ok", 1, 1), "tree 1 on 8 by 8")
+    check(calls.least_level(8, 8, [1], box).answer == ("ok", 1, 1, 1), "tree 1 on 8 by 8")
     check(calls.exact(*s, 128, 0).answer == ("ok", 1_000 * D), "u 128 on 1 by 1")
     check(calls.exact(*s, 129, 0).answer == ("refused", 6), "u 129 on 1 by 1")
     check(calls.least_level(1, 1, [0], (0, 0, 5, 4)).answer == ("refused", 7), "box 0,0 to 5,4, least level")
@@ -302,6 +304,7 @@ GROUPS = [
     ("bench sheet, the rest", unstarred),
     ("corner program", corners),
     ("refusals", refusals),
+    ("levels under a box", level_cases.greatest_levels),
     ("table files", file_cases.files),
     ("counts in a file", file_cases.counts),
     ("counts and other causes", file_cases.counts_in_order),
@@ -310,12 +313,15 @@ GROUPS = [
     ("saving a table", saving),
     ("splines", properties.splines),
     ("region trees", properties.trees),
+    ("levels under random boxes", properties.levels_under),
     ("selection rule", properties.selection),
     ("truncation", properties.truncation),
     ("equal coefficients", properties.unity),
     ("convexity", properties.convexity),
     ("linearity", properties.linearity),
     ("refinement", properties.refinement),
+    ("readings by a level, and misreadings of that level", stopping.by_levels),
+    ("readings on shared edges", stopping.shared_edges),
     ("saving and loading", properties.saving),
     ("saving what was loaded", properties.saving_again),
     ("files of one table", saved_files.files_of_a_table),
@@ -325,6 +331,7 @@ GROUPS = [
     ("fields of notes", note_properties.note_bits),
     ("misreadings on the bench sheet", bench_misreadings),
     ("misreadings on the properties", properties.misreadings),
+    ("misreadings of the levels under a box", level_cases.greatest_misreadings),
     ("misreadings of saving", saved_files.saving_misreadings),
     ("misreadings of a note that is read", note_misreadings.loading_misreadings),
     ("misreadings of a note that is saved", note_misreadings.writing_misreadings),

@@ -61,7 +61,7 @@ def splines(check: Check) -> None:
                 check(same, "two-scale relation of %d (%d, %d) at %d %d" % (level, i, j, u, v))
 
 
-# Document 01, Regions: trees and level maps stand for each other, and the visiting rule against squares one by one.
+# Document 01, Regions: trees and level maps stand for each other, and what an insertion does to the levels.
 def trees(check: Check) -> None:
     rng = Random(11)
     for w, h in SMALL_SHEETS + LARGE_SHEETS:
@@ -74,10 +74,6 @@ def trees(check: Check) -> None:
             check(quadtree.level_map(tree + [0], w, h) is None, "a byte after the tree")
             box = samples.random_box(rng, w, h)
             u0, v0, u1, v1 = box
-            least = min(levels[v][u] for v in range(v0, v1) for u in range(u0, u1))
-            visited = sum(quadtree.shares_area(u, v, side, box) for u, v, side in nodes(tree))
-            answer = calls.least_level(w, h, tree, box).answer
-            check(answer == ("ok", least, visited), "least level under %s on %d by %d" % (box, w, h))
             level = rng.choice((1, 2, 3))
             after = quadtree.level_map(quadtree.insert_box(tree, w, h, box, level), w, h)
             inside = {(u, v) for v in range(v0, v1) for u in range(u0, u1)}
@@ -90,6 +86,24 @@ def trees(check: Check) -> None:
     full = samples.speckled_levels(rng, 8, 8, (0,))
     board = tuple(tuple((u + v) % 2 for u in range(32)) for v in range(32))
     check(quadtree.tree_of(full) == [0] and len(quadtree.tree_of(board)) == 1_365, "shortest and longest tree")
+
+
+# Document 01, Regions, and document 02, Four: the least and the greatest level under a box against its squares one by
+# one, and the count against all nodes; boxes of any size and of one quarter, and whole sheets.
+def levels_under(check: Check) -> None:
+    rng = Random(21)
+    for w, h in SMALL_SHEETS + LARGE_SHEETS:
+        for levels in (samples.random_levels(rng, w, h, 5), samples.speckled_levels(rng, w, h, (0, 1, 2, 3))):
+            tree = quadtree.tree_of(levels)
+            boxes = [samples.random_box(rng, w, h) for _ in range(8)] + [(0, 0, 4 * w, 4 * h)]
+            boxes += [(u, v, u + 1, v + 1) for u, v, _, _ in boxes[:4]]
+            for box in boxes:
+                u0, v0, u1, v1 = box
+                under = [levels[v][u] for v in range(v0, v1) for u in range(u0, u1)]
+                visited = sum(quadtree.shares_area(u, v, side, box) for u, v, side in nodes(tree))
+                answer = calls.least_level(w, h, tree, box).answer
+                told = "levels under %s on %d by %d" % (box, w, h)
+                check(answer == ("ok", min(under), max(under), visited), told)
 
 
 # The squares of all nodes of a tree, without regard to a box; the root's square shares area with every box.

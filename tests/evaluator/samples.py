@@ -2,7 +2,7 @@
 from __future__ import annotations
 
 from random import Random
-from typing import List, NamedTuple, Sequence, Tuple
+from typing import Callable, List, NamedTuple, Sequence, Tuple
 
 import calls
 import tree as quadtree
@@ -61,6 +61,11 @@ def random_box(rng: Random, w: int, h: int) -> Box:
     return u0, v0, u1, v1
 
 
+# The level map that has these levels by their quarters along u and v.
+def levels_by(level: Callable[[int, int], int]) -> LevelMap:
+    return tuple(tuple(level(u, v) for u in range(TREE_SIDE)) for v in range(TREE_SIDE))
+
+
 # A level map with up to the given number of random boxes, each raised to a random level.
 def random_levels(rng: Random, w: int, h: int, boxes: int) -> LevelMap:
     levels: LevelMap = tuple((0,) * TREE_SIDE for _ in range(TREE_SIDE))
@@ -72,10 +77,7 @@ def random_levels(rng: Random, w: int, h: int, boxes: int) -> LevelMap:
 # A level map with a level drawn for each quarter square, so that the tree is large.
 def speckled_levels(rng: Random, w: int, h: int, choices: Sequence[int]) -> LevelMap:
     wide, high = QUARTERS_PER_CELL * w, QUARTERS_PER_CELL * h
-    return tuple(
-        tuple(rng.choice(choices) if u < wide and v < high else 0 for u in range(TREE_SIDE))
-        for v in range(TREE_SIDE)
-    )
+    return levels_by(lambda u, v: rng.choice(choices) if u < wide and v < high else 0)
 
 
 # Coefficients within a share of their limit at the active places, 0 at the passive ones.

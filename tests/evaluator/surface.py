@@ -255,6 +255,11 @@ class Surface:
         along = self._splines_at(level, v, self.h).get(j, Fraction(0))
         return across * along
 
+    # The functions of a level whose product of splines is not 0 at a point, each with that product.
+    def splines_over(self, level: int, u: int, v: int) -> Dict[Function, Fraction]:
+        products = {(i, j): self.untruncated_value(level, i, j, u, v) for i, j in self._near(level, u, v)}
+        return {function: product for function, product in products.items() if product != 0}
+
     # Document 01, Functions and coefficients: 'Truncation drops those terms ... repeated for every finer level.'
     def truncated_in_finest(self, level: int, i: int, j: int) -> Dict[Function, Fraction]:
         terms = {(i, j): Fraction(1)}
@@ -319,8 +324,8 @@ class Surface:
 
 
 # Document 01, Functions and coefficients: 'let the carried value of a function be its own coefficient when active,
-# and the two-scale sum of its parents' carried values when the least old level under it is below its own'.
-def carried_watts(old: Surface, new: Surface, coefficients: Sequence[int]) -> Dict[Tuple[int, int, int], Fraction]:
+# and the two-scale sum of its parents' carried values when the least old level under it is below its own'; in watts.
+def carried_by(old: Surface, coefficients: Sequence[int]) -> Callable[[int, int, int], Fraction]:
     known: Dict[Tuple[int, int, int], Fraction] = {}
 
     def carried(level: int, i: int, j: int) -> Fraction:
@@ -335,6 +340,12 @@ def carried_watts(old: Surface, new: Surface, coefficients: Sequence[int]) -> Di
                 raise ValueError("no value is carried to a function refined away")
         return known[key]
 
+    return carried
+
+
+# The carried values of all functions that are active after an insertion.
+def carried_watts(old: Surface, new: Surface, coefficients: Sequence[int]) -> Dict[Tuple[int, int, int], Fraction]:
+    carried = carried_by(old, coefficients)
     return {(level, i, j): carried(level, i, j) for level in LEVELS for i, j in new.active_functions(level)}
 
 

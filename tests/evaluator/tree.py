@@ -106,24 +106,25 @@ def _after(tree: Sequence[int], at: int) -> int:
     return at
 
 
-# Document 01, Regions: 'The root is visited, and each child of a visited split whose square shares area with the box'.
-def _visit(tree: Sequence[int], at: int, u: int, v: int, side: int, box: Box) -> Tuple[int, int]:
-    if tree[at] != SPLIT:
-        return tree[at], 1
-    least, visited = GREATEST_LEVEL, 1
-    child = at + 1
-    for cu, cv in quadrants(u, v, side):
-        if shares_area(cu, cv, side // 2, box):
-            least_there, visited_there = _visit(tree, child, cu, cv, side // 2, box)
-            least = min(least, least_there)
-            visited += visited_there
-        child = _after(tree, child)
-    return least, visited
+# Document 01, Regions: 'The root is visited, and each child of a visited split whose square shares area with the box;
+# nothing else is.' The bytes of the visited nodes, parents first.
+def _visited(tree: Sequence[int], at: int, u: int, v: int, side: int, box: Box) -> List[int]:
+    visited = [tree[at]]
+    if tree[at] == SPLIT:
+        child = at + 1
+        for cu, cv in quadrants(u, v, side):
+            if shares_area(cu, cv, side // 2, box):
+                visited += _visited(tree, child, cu, cv, side // 2, box)
+            child = _after(tree, child)
+    return visited
 
 
-# Document 01, Regions: 'The least level under a box comes with the number of tree nodes visited.'
-def least_under(tree: Sequence[int], box: Box) -> Tuple[int, int]:
-    return _visit(tree, 0, 0, 0, TREE_SIDE, box)
+# Document 01, Regions: 'The least level under a box comes with the number of tree nodes visited.' Document 02, Four: it
+# 'also gives the greatest level under the box, from the same visited nodes and with the same count'.
+def levels_under(tree: Sequence[int], box: Box) -> Tuple[int, int, int]:
+    visited = _visited(tree, 0, 0, 0, TREE_SIDE, box)
+    leaves = [byte for byte in visited if byte != SPLIT]
+    return min(leaves), max(leaves), len(visited)
 
 
 # Document 01, Functions: 'Insertion gives each square in the box the greater of its old level and the one named'.

@@ -14,7 +14,7 @@ static const uint8_t level_1[13] = {4, 4, 4, 1};
 
 static int64_t s[ONE], fine[ONE], many[KILN_PLACES], more[KILN_PLACES];
 static uint8_t tree[KILN_TREE_BYTES], bytes[KILN_PLACES], out[KILN_FILE_BYTES], file[112];
-static uint8_t level;
+static uint8_t least, greatest;
 static size_t length, visited, cost;
 static int64_t numerator, figure;
 static double watts;
@@ -44,7 +44,8 @@ static void sheet_s(void) {
   HELD(kiln_exact(1, 1, flat, 1, s, ONE, 0, 129, &numerator) == KILN_POINT && numerator == 500 * KILN_DENOMINATOR);
 }
 
-/* "S, level 1 box 0,0 to 4,4: tree 4 4 4 1 and nine 0; 25 active", "least level 1, 4 nodes". */
+/* "S, level 1 box 0,0 to 4,4: tree 4 4 4 1 and nine 0; 25 active", "least level 1, 4 nodes"; greatest level 1, as all
+   of the sheet has it. On 2 by 1 the western half has level 1, the greatest, and the eastern half 0, the least. */
 static void box_inserted(void) {
   memset(tree, 9, sizeof tree);
   HELD(kiln_insert(1, 1, flat, 1, s, ONE, 0, 0, 5, 4, 1, tree, sizeof tree, fine, ONE, &length) == KILN_BOX);
@@ -60,9 +61,12 @@ static void box_inserted(void) {
   HELD(kiln_activity(1, 1, tree, length, 1, bytes, FINE) == KILN_DONE && ones(FINE) == 25);
   HELD(kiln_exact(1, 1, tree, length, fine, ONE, 64, 5, &numerator) == KILN_DONE);
   HELD(numerator == 500 * KILN_DENOMINATOR);
-  HELD(kiln_least_level(1, 1, tree, length, 0, 0, 4, 4, &level, &visited) == KILN_DONE && level == 1 && visited == 4);
-  HELD(kiln_least_level(1, 1, tree, length, 0, 0, 5, 4, &level, &visited) == KILN_BOX && level == 1 && visited == 4);
-  HELD(kiln_least_level(2, 1, tree, length, 0, 0, 8, 4, &level, &visited) == KILN_DONE && level == 0 && visited == 5);
+  HELD(kiln_least_level(1, 1, tree, length, 0, 0, 4, 4, &least, &greatest, &visited) == KILN_DONE);
+  HELD(least == 1 && greatest == 1 && visited == 4);
+  HELD(kiln_least_level(2, 1, tree, length, 0, 0, 8, 4, &least, &greatest, &visited) == KILN_DONE);
+  HELD(least == 0 && greatest == 1 && visited == 5);
+  HELD(kiln_least_level(1, 1, tree, length, 0, 0, 5, 4, &least, &greatest, &visited) == KILN_BOX);
+  HELD(least == 0 && greatest == 1 && visited == 5);
   HELD(kiln_activity(2, 1, tree, length, 0, bytes, 20) == KILN_DONE && ones(20) == 16);
   HELD(kiln_activity(2, 1, tree, length, 1, bytes, 35) == KILN_DONE && ones(35) == 10);
 }
@@ -131,10 +135,14 @@ static void trees(void) {
   HELD(kiln_activity(8, 8, whole_3, 1, 3, bytes, 4489) == KILN_DONE && ones(4489) == 4489);
   HELD(kiln_activity(8, 8, whole_3, 1, 3, bytes, 4488) == KILN_OUTPUT_LENGTH);
   HELD(kiln_activity(8, 8, whole_3, 1, (size_t)-1, NULL, 0) == KILN_LEVEL);
-  HELD(kiln_least_level(8, 8, split, 5, 0, 0, 1, 1, &level, &visited) == KILN_TREE);
-  HELD(kiln_least_level(1, 1, whole_1, 1, 0, 0, 1, 1, &level, &visited) == KILN_TREE);
-  HELD(kiln_least_level(8, 8, whole_1, 1, 0, 0, 1, 1, &level, &visited) == KILN_DONE && level == 1 && visited == 1);
-  HELD(kiln_least_level(8, 8, NULL, 0, 0, 0, 1, 1, &level, &visited) == KILN_TREE);
+  least = 77, greatest = 78, visited = 79;
+  HELD(kiln_least_level(8, 8, split, 5, 0, 0, 1, 1, &least, &greatest, &visited) == KILN_TREE);
+  HELD(kiln_least_level(1, 1, whole_1, 1, 0, 0, 1, 1, &least, &greatest, &visited) == KILN_TREE);
+  HELD(least == 77 && greatest == 78 && visited == 79);
+  HELD(kiln_least_level(8, 8, whole_1, 1, 0, 0, 1, 1, &least, &greatest, &visited) == KILN_DONE);
+  HELD(least == 1 && greatest == 1 && visited == 1);
+  HELD(kiln_least_level(8, 8, NULL, 0, 0, 0, 1, 1, &least, &greatest, &visited) == KILN_TREE);
+  HELD(least == 1 && greatest == 1 && visited == 1);
   HELD(kiln_table_cause(1, 1, flat, 1, NULL, 0) == KILN_NUMBERS_LENGTH);
   HELD(kiln_table_cause(9, 1, NULL, 0, NULL, 0) == KILN_SIDE);
   HELD(kiln_fresh(1, 1, 0, NULL, 0, more, ONE, &length) == KILN_TREE_OUTPUT_SHORT);

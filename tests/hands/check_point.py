@@ -4,17 +4,17 @@ Run as: python3 tests/hands/check_point.py PROGRAM...
 """
 from __future__ import annotations
 
-import subprocess
 import sys
 import tempfile
 from fractions import Fraction
 from pathlib import Path
 from random import Random
-from typing import Dict, List, NamedTuple, Tuple
+from typing import Dict, List, Tuple
 
 from counted import with_counts, without_counts
 from expected import ROOT, six_places
 from noted import copies, noted
+from runs import GREATEST_SIZE, Run, differing, misused, unwritten
 from rust_words import refusal_words
 
 import calls
@@ -23,21 +23,11 @@ import tablefile
 import tree as quadtree
 
 FLAT = tuple((0,) * quadtree.TREE_SIDE for _ in range(quadtree.TREE_SIDE))
-GREATEST_SIZE = 2**64 - 1
 NEEDED = """point: four arguments are needed: TABLE U V TARIFF
   TABLE   a table file
   U, V    the point, in steps of 1/128 cell: U along temperature, V along climb rate
   TARIFF  hundredths of a cent a kWh, 0 to 99999
 """
-
-
-class Run(NamedTuple):
-    """The arguments, and what the program must give."""
-
-    arguments: List[str]
-    text: str
-    errors: str
-    status: int
 
 
 # A 1 by 1 sheet raised to level 1, with the given units of 1/64 watt at every function but one.
@@ -131,29 +121,14 @@ def runs(room: Path) -> List[Run]:
         for u, v, tariff in points:
             lines, status = expected(file, u, v, tariff)
             made.append(Run([str(room / name), str(u), str(v), str(tariff)], "\n".join(lines) + "\n", "", status))
-    table = str(room / "bench-s")
-    for place, name in ((1, "U"), (2, "V"), (3, "TARIFF")):
-        for text in ("", "-1", "+1", " 1", "1 ", "7.5", "1e2", "0x10", "seven", str(GREATEST_SIZE + 1), "9" * 40):
-            arguments = [table, "1", "1", "1"]
-            arguments[place] = text
-            told = f"point: {name} is '{text}', not a whole number from 0 to {GREATEST_SIZE}\n"
-            made.append(Run(arguments, "", told, 255))
-    made += [Run(arguments, "", NEEDED, 255) for arguments in ([], [table], [table, "1", "1"], [table] + ["1"] * 4)]
-    for path, why in ((room / "none", "No such file or directory"), (room, "Is a directory")):
-        made.append(Run([str(path), "1", "1", "1"], "", f"point: the table file '{path}' can't be read: {why}\n", 255))
-    return made
+    return made + misused("point", NEEDED, str(room / "bench-s"), ("U", "V", "TARIFF"), room)
 
 
 def main(programs: List[str]) -> int:
-    wrong = 0
     with tempfile.TemporaryDirectory() as room:
         due = runs(Path(room))
-        for program in programs:
-            for run in due:
-                got = subprocess.run([program, *run.arguments], capture_output=True, text=True, env={"LC_ALL": "C"})
-                if (got.stdout, got.stderr, got.returncode) != run[1:]:
-                    wrong += 1
-                    print(f"{program} {run.arguments}: expected {run[1:]}, got {got}")
+        wrong = differing(programs, due)
+        wrong += unwritten(programs, "point", str(ROOT / "tables/bench-s.table"), "1", "1", "1")
     numbers = {run.status for run in due}
     if not numbers >= {0, 1, 2, 4, 6, 11, 12, 13, 14, 15, 20, 255}:
         wrong += 1

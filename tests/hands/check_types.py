@@ -83,21 +83,24 @@ C = Language(
      (r"\bdouble\b", "float"), (r"\bdouble\b", "int64_t"), (r"\bconst ", ""), (r"(?<!const )\b(?=\w+ \*)", "const "),
      (r"\*", ""), (r"\bsize_t w,\s*size_t h\b", "size_t h, size_t w"),
      (r"\bsize_t u,\s*size_t v\b", "size_t v, size_t u"),
-     (r"\*note_offset,\s*size_t \*note_length\b", "*note_length, size_t *note_offset")])
+     (r"\*note_offset,\s*size_t \*note_length\b", "*note_length, size_t *note_offset"),
+     (r"\*least,\s*uint8_t \*greatest\b", "*greatest, uint8_t *least")])
 RUST = Language(
     re.compile(r"\bfn (?P<name>kiln_\w+)\((?P<takes>[^()]*)\) -> (?P<returns>\w+);"), re.compile(r"//[^\n]*"),
     rust_parameter, {},
     [(r"\busize\b", "i64"), (r"\bi64\b", "usize"), (r"\bi64\b", "i32"), (r"\bu8\b", "i8"), (r"\bf64\b", "f32"),
      (r"\bf64\b", "i64"), (r"\*const\b", "*mut"), (r"\*mut\b", "*const"), (r"\*(?:const|mut) ", ""),
      (r"\bw: usize, h: usize\b", "h: usize, w: usize"), (r"\bu: usize,\s*v: usize\b", "v: usize, u: usize"),
-     (r"\bnote_offset: \*mut usize,\s*note_length\b", "note_length: *mut usize, note_offset")])
+     (r"\bnote_offset: \*mut usize,\s*note_length\b", "note_length: *mut usize, note_offset"),
+     (r"\bleast: \*mut u8,\s*greatest\b", "greatest: *mut u8, least")])
 LIBRARY = Language(
     re.compile(r'#\[no_mangle\]\s*pub extern "C" fn (?P<name>kiln_\w+)\((?P<takes>[^()]*)\) -> (?P<returns>\w+)'),
     re.compile(r"//[^\n]*"), library_parameter, {},
     [(r"\busize\b", "i64"), (r"\bi64\b", "usize"), (r"\bu8\b", "i8"), (r"\bf64\b", "i64"), (r"&mut ", "&"),
      (r"&(?=\[)", "&mut "), (r"\[(?=\w+\])|(?<=\w)\]", ""), (r"\bw: usize,\s*h: usize\b", "h: usize, w: usize"),
      (r"\bu: usize,\s*v: usize\b", "v: usize, u: usize"),
-     (r"\bnote_offset: &mut usize,\s*note_length\b", "note_length: &mut usize, note_offset")])
+     (r"\bnote_offset: &mut usize,\s*note_length\b", "note_length: &mut usize, note_offset"),
+     (r"\bleast: &mut u8,\s*greatest\b", "greatest: &mut u8, least")])
 
 
 def rust_source() -> Path:

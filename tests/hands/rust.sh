@@ -113,6 +113,7 @@ for named in "" "stand 2: 50% \\ 'ü'" $'\xff\x01\n' "$sixty_four" "${sixty_four
 done
 [ ${#seen[@]} -eq ${#words[@]} ] || fail "the examples were not refused with each of ${!words[*]}"
 around=$(python3 tests/hands/around.py "$examples/around") || fail "around differs"
+python3 tests/hands/check_dot.py --rust "$examples/dot" >"$room/dot" || fail "dot differs" "$room/dot"
 
 # A copy of the crate with nothing beside it: no archive, no tables.
 apart=$room/apart
@@ -152,4 +153,4 @@ KILN_LIB_DIR=../lib copied build --offline --locked --examples || fail "a folder
 missing_is_told "after one with it"
 
 echo "hands: Rust crate: $tests tests and $doc_tests doc tests passed, $layout, $lints;" \
-  "examples as expected on ${#files[@]} files; $around; archive found where KILN_LIB_DIR says"
+  "examples as expected on ${#files[@]} files; $around; $(cat "$room/dot"); archive found where KILN_LIB_DIR says"

@@ -2,6 +2,7 @@
    plain call of kiln.h on a refined table, at many points and boxes.
    Prints a line for each thing that is not as due, and a count at the end. */
 #include "kiln_table.h"
+#include "boxes.h"
 #include "held.h"
 
 #include <math.h>
@@ -19,16 +20,6 @@ static const struct kiln_room room_b = {tree_b, KILN_TREE_BYTES, numbers_b, KILN
 static struct kiln_sheet sheet(size_t w, size_t h) {
   struct kiln_sheet made_sheet = {w, h};
   return made_sheet;
-}
-
-static struct kiln_point at(size_t u, size_t v) {
-  struct kiln_point point = {u, v};
-  return point;
-}
-
-static struct kiln_box box(size_t u0, size_t v0, size_t u1, size_t v1) {
-  struct kiln_box made_box = {u0, v0, u1, v1};
-  return made_box;
 }
 
 static struct kiln_function function(size_t level, int64_t i, int64_t j) {
@@ -159,12 +150,13 @@ static void s_has_a_note(const struct kiln_table *s) {
   filled(room_b);
 }
 
-/* "S, level 1 box 0,0 to 4,4: tree 4 4 4 1 and nine 0; 25 active, columns ..."; "least level 1, 4 nodes". */
+/* "S, level 1 box 0,0 to 4,4: tree 4 4 4 1 and nine 0; 25 active, columns ..."; "least level 1, 4 nodes"; greatest
+   level 1, as all of the sheet has it. */
 static void box_is_inserted(const struct kiln_table *s) {
   static const int64_t fine_columns[5] = {-32000, 0, 32000, 64000, 96000};
   struct kiln_table fine = {9, 9, NULL, 9, NULL, 9};
   struct kiln_room few = room_b, short_tree = room_b;
-  uint8_t level = 77;
+  uint8_t least = 77, greatest = 77;
   size_t visited = 77;
   int64_t numerator = 77;
   int same = 1;
@@ -183,15 +175,17 @@ static void box_is_inserted(const struct kiln_table *s) {
     same &= numbers_b[k] == (k < 16 || k >= 16 + FINE ? 0 : fine_columns[(k - 16) % 5]);
   HELD(same);
   HELD(kiln_table_exact(&fine, at(64, 5), &numerator) == KILN_DONE && numerator == 500 * KILN_DENOMINATOR);
-  HELD(kiln_table_least_level(&fine, box(0, 0, 4, 4), &level, &visited) == KILN_DONE && level == 1 && visited == 4);
-  HELD(kiln_table_least_level(&fine, box(0, 0, 5, 4), &level, &visited) == KILN_BOX && level == 1 && visited == 4);
+  HELD(kiln_table_least_level(&fine, box(0, 0, 5, 4), &least, &greatest, &visited) == KILN_BOX);
+  HELD(least == 77 && greatest == 77 && visited == 77);
+  HELD(kiln_table_least_level(&fine, box(0, 0, 4, 4), &least, &greatest, &visited) == KILN_DONE);
+  HELD(least == 1 && greatest == 1 && visited == 4);
   HELD(kiln_table_activity(&fine, 1, bytes, FINE) == KILN_DONE && ones(FINE) == 25);
   HELD(kiln_table_activity(&fine, 1, bytes, FINE - 1) == KILN_OUTPUT_LENGTH);
   HELD(kiln_table_activity(&fine, 4, bytes, FINE) == KILN_LEVEL);
 }
 
-/* "2 by 1, the same box: 16 active at level 0, 10 at level 1. Box 0,0 to 8,4: least level 0, 5 nodes", 700 x D. This
-   file has no counts: "Files lacking it are still loaded." */
+/* "2 by 1, the same box: 16 active at level 0, 10 at level 1. Box 0,0 to 8,4: least level 0, 5 nodes", greatest level 1
+   in the box that was inserted; 700 x D. This file has no counts: "Files lacking it are still loaded." */
 static void two_by_one_from_file(void) {
   static const uint8_t heads[24] = {1, 0, 2, 2, 1, 2, 0, 13, 4, 4, 4, 1, 0, 0, 0, 0, 0, 0, 0, 0, 0, 16, 0, 80};
   static const uint8_t head_1[3] = {17, 0, 50}, tail[6] = {18, 0, 0, 19, 0, 0};
@@ -210,7 +204,7 @@ static void two_by_one_from_file(void) {
 
 static void two_by_one(void) {
   struct kiln_table flat = {9, 9, NULL, 9, NULL, 9}, table;
-  uint8_t level = 77;
+  uint8_t least = 77, greatest = 77;
   size_t visited = 77;
   int64_t numerator = 77;
   HELD(kiln_table_fresh(sheet(2, 9), 700, room_a, &flat) == KILN_SIDE);
@@ -221,7 +215,8 @@ static void two_by_one(void) {
   HELD(kiln_table_insert(&flat, box(0, 0, 4, 4), 1, room_b, &table) == KILN_DONE && is(&table, 2, 1, room_b, 13, TWO));
   HELD(kiln_table_activity(&table, 0, bytes, 20) == KILN_DONE && ones(20) == 16);
   HELD(kiln_table_activity(&table, 1, bytes, 35) == KILN_DONE && ones(35) == 10);
-  HELD(kiln_table_least_level(&table, box(0, 0, 8, 4), &level, &visited) == KILN_DONE && level == 0 && visited == 5);
+  HELD(kiln_table_least_level(&table, box(0, 0, 8, 4), &least, &greatest, &visited) == KILN_DONE);
+  HELD(least == 0 && greatest == 1 && visited == 5);
   HELD(kiln_table_exact(&table, at(256, 128), &numerator) == KILN_DONE && numerator == 700 * KILN_DENOMINATOR);
   HELD(kiln_table_set(&flat, function(0, 1, 0), 5) == KILN_DONE && numbers_a[19] == 5);
   HELD(kiln_table_set(&flat, function(0, 0, 1), 6) == KILN_FUNCTION && numbers_a[18] == 700);
@@ -298,10 +293,10 @@ static void regions_beside_plain(const struct kiln_table *table) {
   int same = 1;
   for (size_t k = 0; k < 14 * 10 * 14 * 10; k++) {
     size_t u0 = k % 14, v0 = k / 14 % 10, u1 = k / 140 % 14, v1 = k / 1960, visited[2] = {7, 7};
-    uint8_t level[2] = {7, 7};
-    same &= kiln_table_least_level(&t, box(u0, v0, u1, v1), &level[0], &visited[0]) ==
-            kiln_least_level(REGIONS(t), u0, v0, u1, v1, &level[1], &visited[1]);
-    same &= level[0] == level[1] && visited[0] == visited[1];
+    uint8_t least[2] = {7, 7}, greatest[2] = {7, 7};
+    same &= kiln_table_least_level(&t, box(u0, v0, u1, v1), &least[0], &greatest[0], &visited[0]) ==
+            kiln_least_level(REGIONS(t), u0, v0, u1, v1, &least[1], &greatest[1], &visited[1]);
+    same &= least[0] == least[1] && greatest[0] == greatest[1] && visited[0] == visited[1];
   }
   for (size_t level = 0; level < 5; level++) {
     size_t n = kiln_level_places(t.w, t.h, level);
