@@ -1,4 +1,6 @@
 pub mod Size
 pub mod Four
 pub mod Subdivision
+pub mod FourByFour
+pub mod Lines
 pub mod Evaluation

@@ -1,22 +1,36 @@
--- A step along u and one along v, each of which makes entries at most 8 times larger.
+-- A step along v and one along u, each of which makes entries at most 8 times larger.
 use lib.Dec.{lit≤}
-use Rattle.patch.proofs.Subdivision.{bounded-le, step-bounded, subdivides}
+use native.Mathlib.Omega.{arith}
+use Rattle.patch.proofs.Subdivision.{bounded-le, along-v-bounded, subdivides}
+use Rattle.patch.proofs.FourByFour.{four-by-four}
+use Rattle.patch.proofs.Lines.{along-v-four}
 use Rattle.patch.proofs.subdivide.Statement.{statement}
 use Rattle.patch.proofs.subdivide.Tie as tie
 
-along-requires : tie.Need-along-requires
-along-requires c κs = bounded-le (c .args .p) (lit≤ tt) (c .pre .2)
+along-v-requires : tie.Need-along-v-requires
+along-v-requires c κs =
+    let s = c .before in
+    let g = s .pre .0 in
+    let h = s .pre .1 in
+    (omega arith, four-by-four (s .args .p) _ (s .good .0), bounded-le (s .args .p) (lit≤ tt) (s .pre .2))
 
-along-requires-2 : tie.Need-along-requires-2
-along-requires-2 c κs =
-    rw (c .along .ensures) (step-bounded 131072000 (c .before .args .p) (c .before .args .g) (c .before .pre .0)
-    (c .before .pre .2))
+along-u-requires : tie.Need-along-u-requires
+along-u-requires c κs =
+    let v = c .before in
+    let s = v .before .before in
+    let g = s .pre .0 in
+    let h = s .pre .1 in (
+      omega arith,
+      rw (v .along-v .ensures) (along-v-four _ (s .args .p)),
+      rw (v .along-v .ensures) (along-v-bounded 131072000 (s .args .p) _ (omega arith) (s .pre .2)),
+    )
 
 returns : tie.Need-returns
 returns c =
-    let a = c .before .before .args in
-    let q = c .before .before .pre in
-    rw (c .along2 .ensures, c .before .along .ensures) (subdivides (a .p) (a .g) (a .h) (q .0) (q .1))
+    let v = c .before .before in
+    let s = v .before .before in
+    rw (c .along-u .ensures, v .along-v .ensures)
+    (subdivides (s .args .p) (s .args .g) (s .args .h) (s .pre .0) (s .pre .1))
 
 pub subdivide-spec : {M : Type 1} → statement M
-subdivide-spec = tie.close (tie.spec along-requires along-requires-2 returns)
+subdivide-spec = tie.close (tie.spec along-v-requires along-u-requires returns)
