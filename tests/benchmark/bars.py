@@ -6,8 +6,8 @@ from __future__ import annotations
 
 from typing import Callable, Dict, List, NamedTuple
 
-from measure import LARGEST, LARGEST_FILE, LOADS, MEASURED, READ, READ_UNCOUNTED, READINGS, UNREFINED, WRITES
-from measure import Figures, beyond_on, counted_on, level_at, stacked_on, tables
+from measure import AT_LEVEL, EXACT, LARGEST, LARGEST_FILE, LOADS, MEASURED, READ, READ_UNCOUNTED, READINGS
+from measure import UNREFINED, WRITES, Figures, beyond_on, calls_on, counted_on, level_at, stacked_on, tables
 
 RATIO = 1.2
 CHECK = 150_000
@@ -37,8 +37,12 @@ READ_BEFORE_NOTE = {
     "8 by 8, all of level 3": (219_152, 219_115),
 }
 MORE_FOR_NOTE = 500
-# Of an exact reading beyond the table check, by the level of the quarter square that holds its point.
-BEYOND_AT_LEVEL = (500, 1_250, 2_000, 2_750)
+# Of an exact reading beyond the table check, by the level of the quarter square that holds its point; of the other
+# readings beyond the exact one; and of their stack, by the kind of table: the most that they took before the step that
+# subdivides a patch worked in one array.
+BEYOND_AT_LEVEL = (266, 970, 1_588, 2_181)
+BEYOND_EXACT = {"watts": 18, "display": 21, "cost": 34}
+READING_STACK = {"unrefined": 1_520, "fully split": 1_968, "all of level 3": 1_520}
 # Readings are taken at a point of level 0.
 READING = CHECK + BEYOND_AT_LEVEL[0]
 STACK = 8_192
@@ -93,6 +97,18 @@ def stacks(figures: Figures) -> Dict[str, float]:
             for table, ours in figures.library.items() for call in stacked_on(table)}
 
 
+def more_stack(figures: Figures) -> Dict[str, float]:
+    """The stack of a reading beyond what it took before, by the kind of table."""
+    return {f"{MEASURED[call]}, {table}": ours.stacks[call] - READING_STACK[table.partition(", ")[2]]
+            for table, ours in figures.library.items() for call in stacked_on(table) if call in (*READINGS, *AT_LEVEL)}
+
+
+def beyond_exact(call: str) -> Callable[[Figures], Dict[str, float]]:
+    """The instructions of another reading beyond those of the exact one."""
+    return lambda figures: {f"{MEASURED[call]}, {table}": ours.counts[call] - ours.counts[EXACT]
+                            for table, ours in figures.library.items() if call in calls_on(table)}
+
+
 def corners(figures: Figures) -> Dict[str, float]:
     return {LARGEST_FILE: figures.corners / figures.library[LARGEST_FILE].counts[READ]}
 
@@ -114,7 +130,11 @@ BARS = {
     **{f"level {level}": Bar("instructions of an exact reading beyond the table check, at a point whose quarter square "
                              f"has level {level}", most, beyond_at(level))
        for level, most in enumerate(BEYOND_AT_LEVEL)},
+    **{call: Bar(f"instructions of {words} beyond those of the exact reading", BEYOND_EXACT[call], beyond_exact(call))
+       for call, words in (("watts", "an f64 reading"), ("display", "a display"), ("cost", "a cost"))},
     "stack": Bar("bytes of stack of a call", STACK, stacks),
+    "reading stack": Bar("bytes of stack of a reading, beyond those before subdivision worked in one array", 0,
+                         more_stack),
     "corners": Bar("instructions of the corner program over those of reading its file, the largest", CORNERS, corners),
 }
 

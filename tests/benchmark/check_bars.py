@@ -19,9 +19,11 @@ from measure import READINGS, ROOT, UNREFINED, Figures, Measured, all_figures, c
 from measure import table_names
 
 PAGE, HEADER = ROOT / "docs/BENCHMARKS.md", ROOT / "include/kiln.h"
-# What reads a file, and what writes one, named here again.
+# What reads a file, what writes one, and what reads at a point, named here again.
 READ_BY = (READ, READ_UNCOUNTED, "read_noted", "read_bench", "bench_noted")
 WRITTEN = ("write_file", "write_noted")
+BESIDE_EXACT = ("watts", "display", "cost")
+READ_AT_POINT = (EXACT, EXACT_1, EXACT_2, *BESIDE_EXACT)
 # The level of the quarter square at which an exact reading is taken, by the kind of table. On a fully split one the
 # level of quarter (q, r) is q % 2 + r % 2, and the points lie in quarters (2 W, 2 H), (2 W + 1, 2 H) and
 # (2 W + 1, 2 H + 1).
@@ -52,8 +54,8 @@ def by_ratio(table: str, call: str, bar: float, past: int) -> Figures:
     return made_up(table, call, ours=round(100 * bar) + past)
 
 
-def by_stack(table: str, call: str, past: int) -> Figures:
-    return made_up(table, call, stack=bars.STACK + past)
+def by_stack(table: str, call: str, bar: int, past: int) -> Figures:
+    return made_up(table, call, stack=bar + past)
 
 
 def by_corners(past: int) -> Figures:
@@ -64,9 +66,18 @@ def pushes() -> Iterator[Push]:
     """Every figure that a bar is held of, by itself: no code of bars.py says which these are."""
     for table in table_names():
         for call in calls_on(table):
-            yield "ratio", f"{MEASURED[call]}, {table}", partial(by_ratio, table, call, bars.RATIO), ()
+            # So far past C an f64 reading takes 20 more than the exact one, which is past its bar.
+            lower = ("watts",) if call == "watts" else ()
+            yield "ratio", f"{MEASURED[call]}, {table}", partial(by_ratio, table, call, bars.RATIO), lower
         for call in stacked_on(table):
-            yield "stack", f"{MEASURED[call]}, {table}", partial(by_stack, table, call), ()
+            lower = ("reading stack",) if call in READ_AT_POINT else ()
+            yield "stack", f"{MEASURED[call]}, {table}", partial(by_stack, table, call, bars.STACK), lower
+            if lower:
+                bar = bars.READING_STACK[table.partition(", ")[2]]
+                yield "reading stack", f"{MEASURED[call]}, {table}", partial(by_stack, table, call, bar), ()
+        for call in set(BESIDE_EXACT) & set(calls_on(table)):
+            bar = made_up().library[table].counts[EXACT] + bars.BEYOND_EXACT[call]
+            yield call, f"{MEASURED[call]}, {table}", partial(by_count, table, call, bar), ()
         for call in (READ, READ_UNCOUNTED):
             bar = bars.READ_BEFORE_COUNTS[table] + bars.MORE_FOR_COUNTS
             yield "counts", f"{MEASURED[call]}, {table}", partial(by_count, table, call, bar), ("note",)
@@ -84,7 +95,8 @@ def pushes() -> Iterator[Push]:
             ("insertion", LARGEST, "insert", bars.INSERTION),
             *(("file reading", LARGEST_FILE, call, bars.FILE_READING) for call in READ_BY),
             *(("file writing", LARGEST_FILE, call, bars.FILE_WRITING) for call in WRITTEN)):
-        lower = () if call not in READ_BY else ("counts", "note") if call in (READ, READ_UNCOUNTED) else ("note",)
+        lower = (call,) if call in BESIDE_EXACT else () if call not in READ_BY else (
+            ("counts", "note") if call in (READ, READ_UNCOUNTED) else ("note",))
         yield name, f"{MEASURED[call]}, {table}", partial(by_count, table, call, bar), lower
     yield "corners", LARGEST_FILE, by_corners, ()
 

@@ -33,15 +33,19 @@ static patch coarsest(const int64_t *numbers, size_t n, size_t a, size_t b) {
   return p;
 }
 
-/* The children in one half along the first direction, with the directions exchanged. */
-static patch along(patch p, size_t half) {
-  patch next;
-  for (size_t l = 0; l < 4; l++) {
-    int64_t a = p.at[0][l], b = p.at[1][l], c = p.at[2][l], d = p.at[3][l];
-    int64_t five[5] = {4 * (a + b), a + 6 * b + c, 4 * (b + c), b + 6 * c + d, 4 * (c + d)};
-    for (size_t k = 0; k < 4; k++) next.at[l][k] = five[half + k];
-  }
-  return next;
+/* The children in one half of four parents in a row, at their parents' places. */
+static void line(int64_t *i, int64_t *j, int64_t *k, int64_t *l, size_t half) {
+  int64_t ab = *i + *j, bc = *j + *k, cd = *k + *l, x = ab + 4 * *j + bc, y = 4 * bc, z = bc + 4 * *k + cd;
+  *i = half == 0 ? 4 * ab : x;
+  *j = half == 0 ? x : y;
+  *k = half == 0 ? y : z;
+  *l = half == 0 ? z : 4 * cd;
+}
+
+/* One step of subdivision, in place: along v row by row, then along u column by column. */
+static void subdivide(patch *p, size_t g, size_t h) {
+  for (size_t k = 0; k < 4; k++) line(&p->at[k][0], &p->at[k][1], &p->at[k][2], &p->at[k][3], h);
+  for (size_t l = 0; l < 4; l++) line(&p->at[0][l], &p->at[1][l], &p->at[2][l], &p->at[3][l], g);
 }
 
 /* The patch of a level from the one above: own coefficients where the support lies in the level's region. */
@@ -49,7 +53,8 @@ static patch finer(patch coarse, const int64_t *numbers, const struct regions *r
                    size_t level, size_t u, size_t v) {
   size_t a = cell_of(w, level, u), b = cell_of(h, level, v), n = functions(w, level);
   const int64_t *own = numbers + start(w, h, level) + b * n + a;
-  patch next = along(along(coarse, a % 2), b % 2);
+  patch next = coarse;
+  subdivide(&next, a % 2, b % 2);
   for (size_t l = 0; l < 4; l++, own += n) {
     struct marks inside = inside_row(regions, w, h, level, b + l);
     for (size_t k = 0; k < 4; k++)
