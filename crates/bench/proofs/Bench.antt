@@ -1,5 +1,5 @@
 -- The bench sheet's starred cases: by computation and, where a case speaks of a reading, of every point or of
--- thousands of functions, by the laws first. With them the further case that reads, WholeWattsPriced.
+-- thousands of functions, by the laws first.
 use mathlib.Core.Path.{_≡_, refl, ap, _∙_, subst}
 use mathlib.Core.Bool.{true, _&&_, cond}
 use mathlib.Core.List.{List, [], _∷_}
@@ -20,31 +20,20 @@ use Rattle.surface.specs.Quadtree.{parse, wellFormed, levelAt, visits}
 use Rattle.surface.specs.Support.{shares, leastUnder, active, activeInRow, activeCount}
 use Rattle.surface.specs.Spline.{cellOf, piece}
 use Rattle.surface.specs.Truncation.{D}
-use Rattle.surface.specs.Patch.{patch, patchReading}
+use Rattle.surface.specs.Patch.{patch}
 use Rattle.surface.specs.Table.{levels, places, start, coefficients, withinLimits, passiveZero}
 use Rattle.surface.specs.Table.{regionCause, cause, tableCause, Acceptable, tableReading}
 use Rattle.surface.specs.Calls.{gives, activityBytes, activityCause, activityOutcome, leastOutcome}
-use Rattle.surface.specs.Calls.{readingCause, exactOutcome, answer, displayOutcome, costOutcome, wholeWatts}
-use Rattle.surface.specs.Calls.{costOf}
+use Rattle.surface.specs.Calls.{readingCause, exactOutcome}
 use Rattle.surface.specs.Demands.{Around}
 use Rattle.bench.specs.Bench.{rows, zeros, refined, columnsS, S, flat, first, second, columnsCarried}
 use Rattle.bench.specs.Bench.{carriedS, level700, ActivityIs, Equal, Finest, OneOnEight, BenchSheet}
-use Rattle.bench.specs.Cases.{halfWatt, WholeWattsPriced}
 use Rattle.bench.proofs.Computed.{inserted, visited, two-by-one}
 use Rattle.surface.proofs.Least.{leastUnder-le-3, le-leastWhere}
 use Rattle.surface.proofs.TableLaws.{formed-tree, place-in-slice, acceptable}
-use Rattle.surface.proofs.PatchReading.{patch-reading}
 use Rattle.surface.proofs.Around.{bracketed}
-use Rattle.surface.proofs.Demands.{reading-given}
 use Rattle.bench.proofs.BenchLaws.{eqZ, columns-by, everywhere-by, zero-coefficient, activity-is, tree-gives}
-use Rattle.bench.proofs.BenchLaws.{last-point, wide-least, wide-insert}
-
--- a reading on the unrefined 1 by 1 sheet, by its patch
-read : (cs : List ℤ) (u v : ℕ) (n : ℤ) → readingCause 1 1 flat cs u v ≡ 0 → u ≤ 128 → v ≤ 128
-    → patchReading 1 1 (levels flat) (coefficients 1 1 cs) u v ≡ n → exactOutcome 1 1 flat cs u v ≡ gives n
-unfolding exactOutcome
-read cs u v n e hu hv r =
-    rw (e, patch-reading 1 1 (levels flat) (coefficients 1 1 cs) u v (lit< tt) (lit< tt) hu hv, r)
+use Rattle.bench.proofs.BenchLaws.{read, last-point, wide-least, wide-insert}
 
 -- ---- every active coefficient 700 watts
 
@@ -153,22 +142,21 @@ one-on-eight = (
 -- ---- the table
 
 pub bench-sheet : BenchSheet
-unfolding readingCause tableCause regionCause withinLimits passiveZero every leastUnder least eighths levels levelAt
-    parse
-    wellFormed start coefficients patchReading patch sum cellOf piece eqZ activityBytes tableFrom rowsFrom activeCount
+unfolding readingCause tableCause regionCause withinLimits passiveZero every leastUnder least greatest eighths levels
+    levelAt parse wellFormed start coefficients patch sum cellOf piece eqZ activityBytes tableFrom rowsFrom activeCount
     activeInRow total count
 bench-sheet =
     record {
       columnsOfS = columns-by 1 1 S 0 columnsS refl;
-      slope = (read S 64 5 (pos 79164837199872000) refl (lit≤ tt) (lit≤ tt) refl, refl);
+      slope = (read flat S 64 5 0 (pos 79164837199872000) refl (lit≤ tt) (lit≤ tt) (lit≤ tt) (lit≤ tt) refl, refl);
       corners = (
         everywhere-by 1 1 (coefficients 1 1 first) _ refl,
-        read first 0 0 (pos (2 ^ 42)) refl (lit≤ tt) (lit≤ tt) refl,
-        read first 128 128 (pos 0) refl (lit≤ tt) (lit≤ tt) refl,
+        read flat first 0 0 0 (pos (2 ^ 42)) refl (lit≤ tt) (lit≤ tt) (lit≤ tt) (lit≤ tt) refl,
+        read flat first 128 128 0 (pos 0) refl (lit≤ tt) (lit≤ tt) (lit≤ tt) (lit≤ tt) refl,
       );
       nextCorner = (
         everywhere-by 1 1 (coefficients 1 1 second) _ refl,
-        read second 0 0 (pos (2 ^ 46)) refl (lit≤ tt) (lit≤ tt) refl,
+        read flat second 0 0 0 (pos (2 ^ 46)) refl (lit≤ tt) (lit≤ tt) (lit≤ tt) (lit≤ tt) refl,
       );
       inserted = inserted;
       columnsInserted = columns-by 1 1 carriedS 1 columnsCarried refl;
@@ -198,7 +186,7 @@ bench-sheet =
       oneOnEight = one-on-eight;
       lastPoints = (
         last-point,
-        read S 128 5 (pos (1000 * D)) refl (lit≤ tt) (lit≤ tt) refl,
+        read flat S 128 5 0 (pos (1000 * D)) refl (lit≤ tt) (lit≤ tt) (lit≤ tt) (lit≤ tt) refl,
         last-point flat S refl .exactPast 5,
       );
       wideBox = (
@@ -208,22 +196,3 @@ bench-sheet =
         wide-insert flat S 1 (replicate 14 9) (replicate 211 (pos 9)) refl,
       );
     }
-
--- ---- whole watts and their cost
-
--- where the exact reading is n, display and cost are of n's whole watts
-priced : (W H : ℕ) (t : List ℕ) (cs : List ℤ) (u v tariff : ℕ) (n : ℤ) → exactOutcome W H t cs u v ≡ gives n
-    → (displayOutcome W H t cs u v ≡ gives (wholeWatts n))
-    × (costOutcome W H t cs u v tariff ≡ answer (cause 11 (ltb 99999 tariff)) (costOf (wholeWatts n) tariff))
-unfolding displayOutcome costOutcome readingCause
-priced W H t cs u v tariff n e =
-    let g = reading-given W H t cs u v n .0 e in
-    (rw (g .0, g .1, g .2), rw (g .0, g .1, g .2))
-
-pub whole-watts-priced : WholeWattsPriced
-unfolding readingCause tableCause regionCause withinLimits passiveZero every leastUnder least eighths levels levelAt
-    parse wellFormed start coefficients patchReading patch sum cellOf piece wholeWatts
-whole-watts-priced =
-    let half = read halfWatt 64 5 (pos (18 * 2 ^ 42)) refl (lit≤ tt) (lit≤ tt) refl in
-    let p = priced 1 1 flat halfWatt 64 5 99999 (pos (18 * 2 ^ 42)) half in
-    (half, p .0, p .1)

@@ -3,10 +3,10 @@
 use mathlib.Core.Path.{_≡_, refl, sym, _∙_, subst}
 use mathlib.Core.Bool.{Bool, true, _&&_}
 use mathlib.Core.List.{List}
-use Prim.Native.Nat.{ℕ, suc, _^_, _≤_, _<_}
+use Prim.Native.Nat.{ℕ, suc, _^_, _≤_, _<_, min}
 use lib.IntN.{ℤ, pos}
 use lib.ListN.{length, getD, getD-replicate}
-use lib.Dec.{T}
+use lib.Dec.{T, lit<}
 use lib.Ieee.{Float}
 use lib.Signed.{leZ, leZ-yes}
 use borrow.Author.Tests.{le-leb, le-ltb, eq-eqb}
@@ -15,14 +15,17 @@ use Rattle.finite.proofs.Order.{≤ℤ-antisym}
 use Rattle.finite.proofs.Tests.{every2-true, both}
 use Rattle.surface.specs.Sheet.{functions, onSheet}
 use Rattle.surface.specs.Truncation.{D}
-use Rattle.surface.specs.Table.{places, place, coefficients, regionCause, tableCause, everywhere, Acceptable}
+use Rattle.surface.specs.Patch.{evaluated, stopLevel}
+use Rattle.surface.specs.Table.{levels, places, place, coefficients, regionCause, tableCause, everywhere, Acceptable}
 use Rattle.surface.specs.Table.{tableReading}
 use Rattle.surface.specs.Calls.{Answer, refused, gives, insertCause, insertOutcome, setCause, setOutcome}
 use Rattle.surface.specs.Calls.{activityBytes, activityCause, activityOutcome, leastOutcome, readingCause}
-use Rattle.surface.specs.Calls.{exactOutcome, displayOutcome, costOutcome}
+use Rattle.surface.specs.Calls.{exactOutcome, wholeWatts, displayOutcome, costOf, costOutcome}
 use Rattle.surface.specs.FloatReading.{Near, FloatMeets}
 use Rattle.bench.specs.Bench.{zeros, box, Columns, ActivityIs, TreeGives, LastPoint}
 use Rattle.surface.proofs.TableLaws.{everywhere-true}
+use Rattle.surface.proofs.Demands.{any-level, reading-given}
+use Rattle.surface.proofs.Costs.{cost-given}
 use Rattle.surface.proofs.Refusals.{float-refused}
 
 -- ---- coefficients
@@ -53,6 +56,25 @@ everywhere-by W H f g e L a b hL ha hb =
 pub zero-coefficient : (W H n L a b : ℕ) → place W H L a b < n → coefficients W H (zeros n) L a b ≡ pos 0
 unfolding coefficients
 zero-coefficient W H n L a b h = getD-replicate n (place W H L a b) (pos 0) (pos 0) h
+
+-- ---- readings
+
+-- an exact reading on a 1 by 1 sheet, by its patch of any level from that of the point's quarter square on
+pub read : (t : List ℕ) (cs : List ℤ) (u v L : ℕ) (n : ℤ) → readingCause 1 1 t cs u v ≡ 0 → u ≤ 128 → v ≤ 128
+    → L ≤ 3 → min (stopLevel 1 1 (levels t) u v) 3 ≤ L
+    → evaluated 1 1 (levels t) (coefficients 1 1 cs) u v L ≡ n → exactOutcome 1 1 t cs u v ≡ gives n
+unfolding exactOutcome
+read t cs u v L n none hu hv small stops value =
+    rw (none, any-level 1 1 (levels t) (coefficients 1 1 cs) u v (lit< tt) (lit< tt) hu hv L small stops .1, value)
+
+-- where the exact reading is n, the display shows its whole watts and the cost is its cost
+pub priced : (W H : ℕ) (t : List ℕ) (cs : List ℤ) (u v tariff : ℕ) (n : ℤ) → exactOutcome W H t cs u v ≡ gives n
+    → tariff ≤ 99999
+    → (displayOutcome W H t cs u v ≡ gives (wholeWatts n)) × (costOutcome W H t cs u v tariff ≡ gives (costOf n tariff))
+unfolding displayOutcome readingCause
+priced W H t cs u v tariff n e h =
+    let g = reading-given W H t cs u v n .0 e in
+    (rw (g .0, g .1, g .2), cost-given W H t cs u v tariff (costOf n tariff) .1 (n, e, h, refl))
 
 -- ---- activity
 

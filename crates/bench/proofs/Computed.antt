@@ -22,7 +22,7 @@ use Rattle.surface.specs.BenchLoading.{benchOutcome}
 use Rattle.surface.specs.Saving.{saveCause, saveOutcome}
 use Rattle.bench.specs.Bench.{Inserted, Visited, TwoByOne}
 use Rattle.bench.specs.Cases.{InsideCell, Children, Shortest, Longest, EastBox, LimitFirst, NewTree, Activity}
-use Rattle.bench.specs.Cases.{Sets, Fresh, LevelZero, SetsFine, Declined, LowestGiven, Costs, Files}
+use Rattle.bench.specs.Cases.{Sets, Fresh, LevelZero, SetsFine, Declined, LowestGiven, Files}
 use Rattle.bench.specs.Cases.{CountedFiles, SavedFiles, NotedFiles, NotesRefused, SavedNotes, Heads}
 use Rattle.bench.specs.Cases.{ContentsFirst, GreatestLevels}
 
@@ -122,9 +122,6 @@ unfolding exactOutcome readingCause insertOutcome insertCause setOutcome setCaus
     activityOutcome activityCause tableCause regionCause withinLimits passiveZero every leastUnder least eighths levels
     levelAt parse wellFormed start coefficients
 lowest-given = (refl, refl, refl, refl, refl, refl, refl, refl)
-
-pub costs : Costs
-costs = (refl, refl, refl)
 
 pub files : Files
 unfolding fileOutcome fileContents sidesField treeField countsField levelField levelFields noteField field activeCount

@@ -1,5 +1,6 @@
 pub mod Computed
 pub mod BenchLaws
 pub mod Bench
+pub mod CostCases
 pub mod Unrefined
 pub mod LinkedBench

@@ -209,7 +209,7 @@ pub record LastPoint (t : List ℕ) (cs : List ℤ) : Type 0 where
       → (x : Float) × (given ≡ gives x) × Near (2 ^ 30) D (tableReading 1 1 t cs 128 v) x
   pub display : (v : ℕ) → v ≤ 128 → displayOutcome 1 1 t cs 128 v ≡ gives (wholeWatts (tableReading 1 1 t cs 128 v))
   pub cost : (v tariff : ℕ) → v ≤ 128 → tariff ≤ 99999
-      → costOutcome 1 1 t cs 128 v tariff ≡ gives (costOf (wholeWatts (tableReading 1 1 t cs 128 v)) tariff)
+      → costOutcome 1 1 t cs 128 v tariff ≡ gives (costOf (tableReading 1 1 t cs 128 v) tariff)
   pub exactPast : (v : ℕ) → exactOutcome 1 1 t cs 129 v ≡ refused 6
   pub wattsPast : (v : ℕ) (given : Answer Float) → FloatMeets (exactOutcome 1 1 t cs 129 v) given → given ≡ refused 6
   pub displayPast : (v : ℕ) → displayOutcome 1 1 t cs 129 v ≡ refused 6

@@ -10,7 +10,7 @@ use Rattle.surface.specs.Quadtree.{bytes, regionTree}
 use Rattle.surface.specs.Table.{levels, coefficients, tableCause}
 use Rattle.surface.specs.Patch.{patchReading}
 use Rattle.surface.specs.Calls.{refused, gives, freshOutcome, insertOutcome, setOutcome, activityOutcome}
-use Rattle.surface.specs.Calls.{leastOutcome, exactOutcome, displayOutcome, costOutcome, costOf}
+use Rattle.surface.specs.Calls.{leastOutcome, exactOutcome, displayOutcome, costOutcome}
 use Rattle.surface.specs.Note.{none, noted, NotePart, noPart}
 use Rattle.surface.specs.TableFile.{fileOutcome}
 use Rattle.surface.specs.BenchLoading.{Benched, benchOutcome}
@@ -149,23 +149,6 @@ LowestGiven =
     × (freshOutcome 1 1 (pos 32001) flat [] .result ≡ refused 10)
     × (leastOutcome 1 1 (1 ∷ []) (box 0 0 5 4) ≡ refused 2)
     × (activityOutcome 1 1 (1 ∷ []) 4 [] .result ≡ refused 2)
-
--- ---- roundings
-
--- "tariff 1,499 costs 1, tariff 1,500 costs 2", of 1 watt; "0 for watts of 0 or less"
-abbrev pub Costs : Type 0
-Costs = (costOf (pos 1) 1499 ≡ 1) × (costOf (pos 1) 1500 ≡ 2) × (costOf (negℤ (pos 9)) 99999 ≡ 0)
-
--- "those whole watts times the tariff": half a watt shows as 1, which costs 100; the exact half would cost 50. (Proved
--- in proofs/Bench.antt, where readings go by their patch.)
-abbrev pub halfWatt : List ℤ
-halfWatt = rows 4 (negℤ (pos 1) ∷ pos 0 ∷ pos 1 ∷ pos 2 ∷ []) ++ zeros 195
-
-abbrev pub WholeWattsPriced : Type 0
-WholeWattsPriced =
-    (exactOutcome 1 1 flat halfWatt 64 5 ≡ gives (pos (18 * 2 ^ 42)))
-    × (displayOutcome 1 1 flat halfWatt 64 5 ≡ gives (pos 1))
-    × (costOutcome 1 1 flat halfWatt 64 5 99999 ≡ gives 100)
 
 -- ---- the table file
 

@@ -24,18 +24,18 @@ module _ (W H : ℕ) (t : List ℕ) (cs : List ℤ) (u v : ℕ) where
     display-given = gives-by (readingCause W H t cs u v) (tableReading W H t cs u v) wholeWatts e
 
     cost-by : (tariff : ℕ) (over : Bool) → over ≡ ltb 99999 tariff
-        → answer (cause 11 over) (costOf (wholeWatts x) tariff) ≡ costOutcome W H t cs u v tariff
+        → answer (cause 11 over) (costOf x tariff) ≡ costOutcome W H t cs u v tariff
     unfolding costOutcome exactOutcome
     cost-by tariff over p =
         gives-before (readingCause W H t cs u v) (cause 11 over) (tableReading W H t cs u v)
-        (λ n. costOf (wholeWatts n) tariff) e
+        (λ n. costOf n tariff) e
         ∙ ap (λ o. answer (readingCause W H t cs u v orElse cause 11 o)
-        (costOf (wholeWatts (tableReading W H t cs u v)) tariff)) p
+        (costOf (tableReading W H t cs u v) tariff)) p
 
     pub tariff-refused : (tariff : ℕ) → 99999 < tariff → refused 11 ≡ costOutcome W H t cs u v tariff
     tariff-refused tariff h = cost-by tariff true (sym (lt-ltb 99999 tariff h))
 
-    pub cost-given : (tariff n : ℕ) → tariff ≤ 99999 → n ≡ costOf (wholeWatts x) tariff
+    pub cost-given : (tariff n : ℕ) → tariff ≤ 99999 → n ≡ costOf x tariff
         → gives n ≡ costOutcome W H t cs u v tariff
     cost-given tariff n h p = ap gives p ∙ cost-by tariff false (sym (le-ltb 99999 tariff h))
 
@@ -51,4 +51,4 @@ module _ (W H : ℕ) (t : List ℕ) (cs : List ℤ) (u v : ℕ) where
     unfolding costOutcome exactOutcome
     cost-refused tariff =
         refused-before (readingCause W H t cs u v) (cause 11 (ltb 99999 tariff)) (tableReading W H t cs u v)
-        (costOf (wholeWatts (tableReading W H t cs u v)) tariff) e
+        (costOf (tableReading W H t cs u v) tariff) e

@@ -59,7 +59,8 @@ pub fn display(
     }
 }
 
-// Cost per hour in hundredths of a cent, by a tariff in hundredths of a cent per kWh.
+// Cost per hour in hundredths of a cent, by a tariff in hundredths of a cent per kWh; rounded once, from the exact
+// reading.
 pub fn cost(
     w: usize,
     h: usize,
@@ -77,7 +78,7 @@ pub fn cost(
             if 99999 < tariff {
                 return answers::Cost::Refused(11);
             }
-            answers::Cost::Hundredths(rounding::cost_of(rounding::whole_watts(n), tariff))
+            answers::Cost::Hundredths(rounding::cost_of(n, tariff))
         }
         answers::Exact::Refused(c) => answers::Cost::Refused(c),
     }

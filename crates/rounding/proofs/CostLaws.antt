@@ -1,16 +1,37 @@
--- The cost of watts, by the test that they passed.
-use mathlib.Core.Path.{_≡_, sym, ap}
-use Prim.Native.Nat.{ℕ, _+_, _*_, _/_, _≤_}
-use native.Mathlib.Nat.{mul-le-mul}
+-- The cost of an exact reading from its whole watts and what is left over.
+use mathlib.Core.Path.{_≡_, sym, ap, _∙_}
+use Prim.Native.Nat.{ℕ, _+_, _*_, _/_, _%_, _≤_}
+use native.Mathlib.Nat.{mul-le-mul, add-mul, mul-assoc, div-le-self}
+use native.Mathlib.Omega.{arith}
 use lib.IntN.{ℤ, pos, negsuc, natAbs}
+use mir.Syntax.{w64}
+use mir.Val.{Fits}
+use Rattle.surface.specs.Truncation.{D}
 use Rattle.surface.specs.Calls.{costOf}
 
 pub cost-none : {n : ℤ} {m : ℕ} (t : ℕ) → n ≡ negsuc m → 0 ≡ costOf n t
 cost-none t e = sym (ap (λ y. costOf y t) e)
 
-pub cost-some : {n z : ℤ} {m : ℕ} (t : ℕ) → n ≡ pos m → z ≡ pos m → (2 * (natAbs z * t) + 1000) / 2000 ≡ costOf n t
-cost-some t p e = rw (e, p)
+-- n×t + 500×D over D is q×t and r×t + 500×D over D, where n = D×q + r
+product : (n t : ℕ) → n * t ≡ D * (n / D * t) + n % D * t
+product n t =
+    let parts : n ≡ D * (n / D) + n % D = omega arith in
+    ap (λ m. m * t) parts ∙ add-mul (D * (n / D)) (n % D) t ∙ ap (λ m. m + n % D * t) (mul-assoc D (n / D) t)
 
-pub product-small : {n z : ℤ} {m t : ℕ} → n ≡ pos m → z ≡ pos m → natAbs n ≤ 60000 → t ≤ 99999
-    → natAbs z * t ≤ 60000 * 99999
-product-small p e h k = rw e (mul-le-mul (rw p at h) k)
+cost-split : (n t : ℕ) → (n / D * t + (n % D * t + 500 * D) / D) / 1000 ≡ costOf (pos n) t
+cost-split n t = omega (arith, product n t)
+
+pub cost-some : {n z : ℤ} {m : ℕ} (t : ℕ) → n ≡ pos m → z ≡ pos m
+    → (natAbs z / D * t + (natAbs z % D * t + 500 * D) / D) / 1000 ≡ costOf n t
+cost-some {n} {z} {m} t p e = rw (e, p) (cost-split m t)
+
+-- what the code adds up fits in 64 bits, by how great its parts are at most
+pub product-fits : {a t : ℕ} → a ≤ D → t ≤ 99999 → Fits w64 (a * t)
+product-fits ha ht = record { fits = omega (arith, mul-le-mul ha ht) }
+
+pub left-fits : {a t k : ℕ} → a ≤ D → t ≤ 99999 → k ≤ 501 * D → Fits w64 (a * t + k)
+left-fits ha ht hk = record { fits = omega (arith, mul-le-mul ha ht) }
+
+pub sum-fits : {a b t k : ℕ} (d : ℕ) → a ≤ 60000 → b ≤ D → t ≤ 99999 → k ≤ 501 * D → Fits w64 (a * t + (b * t + k) / d)
+sum-fits {a} {b} {t} {k} d ha hb ht hk =
+    record { fits = omega (arith, mul-le-mul ha ht, mul-le-mul hb ht, div-le-self (b * t + k) d) }

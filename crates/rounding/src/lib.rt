@@ -11,6 +11,11 @@ const DENOMINATOR: i64 = 158329674399744;
 
 const HALF: i64 = DENOMINATOR / 2;
 
+// D again, for numbers that are not below zero, and half of 1,000 × D.
+const UNSIGNED_DENOMINATOR: usize = 158329674399744;
+
+const HALF_OF_THOUSAND: usize = 500 * UNSIGNED_DENOMINATOR;
+
 // The floor of n/D, exact at every i64: the quotient toward zero, less 1 where its remainder is below zero.
 fn floor_over_d(n: i64) -> i64
     ensures { λ r. ⌜ r ≡ floorDiv n D ⌝ }
@@ -44,13 +49,16 @@ pub fn whole_watts(n: i64) -> i64
     if left < HALF { floor } else { floor + 1 }
 }
 
-// Cost per hour in hundredths of a cent; watts of 0 come to 0 by the formula.
-pub fn cost_of(watts: i64, tariff: usize) -> usize
-    requires { ⌜ (natAbs watts ≤ 60000) × (tariff ≤ 99999) ⌝ }
-    ensures { λ r. ⌜ r ≡ costOf watts tariff ⌝ }
+// Cost per hour in hundredths of a cent, of n/D watts: n × tariff over 1,000 × D to the nearest whole number, halves
+// upward. 64 bits do not hold that product, so n goes by its whole watts and by what is left over, which is below D.
+pub fn cost_of(n: i64, tariff: usize) -> usize
+    requires { ⌜ tariff ≤ 99999 ⌝ }
+    ensures { λ r. ⌜ r ≡ costOf n tariff ⌝ }
 {
-    if watts < 0 {
+    if n < 0 {
         return 0;
     }
-    (2 * (watts as usize * tariff) + 1000) / 2000
+    let whole = n as usize / UNSIGNED_DENOMINATOR;
+    let left = n as usize % UNSIGNED_DENOMINATOR;
+    (whole * tariff + (left * tariff + HALF_OF_THOUSAND) / UNSIGNED_DENOMINATOR) / 1000
 }

@@ -2,7 +2,7 @@
 use mathlib.Core.Path.{_≡_, refl}
 use mathlib.Core.Bool.{true, false, _&&_, cond}
 use mathlib.Core.List.{List, [], _∷_, _++_}
-use Prim.Native.Nat.{ℕ, _+_, _*_, _^_}
+use Prim.Native.Nat.{ℕ, _+_, _*_, _-_, _^_}
 use lib.IntN.{pos, negℤ, _-ℤ_}
 use lib.Dec.{leb, ltb}
 use lib.ListN.{drop, replicate}
@@ -13,10 +13,10 @@ use Rattle.surface.specs.Support.{leastUnder, active, activeInRow, activ
 use Rattle.surface.specs.Support.{leastWhere, greatestWhere, inBox}
 use Rattle.surface.specs.Patch.{stopLevel}
 use Rattle.surface.specs.Spline.{cellOf, piece, splineAt}
-use Rattle.surface.specs.Truncation.{weight, truncated}
+use Rattle.surface.specs.Truncation.{D, weight, truncated}
 use Rattle.surface.specs.Carry.{raised, carried}
 use Rattle.surface.specs.Table.{levels, start, coefficients, withinLimits, passiveZero, regionCause, tableCause}
-use Rattle.surface.specs.Calls.{Answer, refused, gives, wholeWatts}
+use Rattle.surface.specs.Calls.{Answer, refused, gives, wholeWatts, costOf}
 use Rattle.surface.specs.Fields.{Judged, declined, Part, holds, field, allWithin}
 use Rattle.surface.specs.Note.{none, noted, noteField, NotePart, noPart}
 use Rattle.surface.specs.TableFile.{sidesField, treeField, countsAgree, countsField, levelField, levelFields}
@@ -126,6 +126,19 @@ pub rounded : (wholeWatts (negℤ (pos (18 * 2 ^ 42))) ≡ pos 0)
     × (wholeWatts (pos (18 * 2 ^ 42)) ≡ pos 1)
 unfolding wholeWatts
 rounded = (refl, refl, refl, refl)
+
+-- "rounded once": 31/64 watt at 99,999 is 48.4 and costs 48, 3/4 watt at 600 is 0.45 and costs 0, half a watt at 2,999
+-- is 1.4995 and costs 1; "halves upward": 1/4 watt at 2,000 costs 1 and what lies below it 0; "Exact readings of zero
+-- or less still cost 0", also 1/64 watt below; 32,000 watts at 99,999, whose product no 64 bits hold
+pub priced : (costOf (pos (36 * 31 * 2 ^ 36)) 99999 ≡ 48)
+    × (costOf (pos (27 * 2 ^ 42)) 600 ≡ 0)
+    × (costOf (pos (18 * 2 ^ 42)) 2999 ≡ 1)
+    × (costOf (pos (9 * 2 ^ 42)) 2000 ≡ 1)
+    × (costOf (pos (9 * 2 ^ 42 - 1)) 2000 ≡ 0)
+    × (costOf (pos 0) 99999 ≡ 0)
+    × (costOf (negℤ (pos (36 * 2 ^ 36))) 99999 ≡ 0)
+    × (costOf (pos (32000 * D)) 99999 ≡ 3199968)
+priced = (refl, refl, refl, refl, refl, refl, refl, refl)
 
 -- ---- the counts in a file
 

@@ -30,3 +30,4 @@ pub mod FileRefusals
 pub mod Refusals
 pub mod Writers
 pub mod Demands
+pub mod Costs

@@ -221,13 +221,14 @@ wholeWatts n = floorDiv (pos 2 *ℤ n +ℤ pos D) (2 * D)
 unfoldable pub displayOutcome : ℕ → ℕ → List ℕ → List ℤ → ℕ → ℕ → Answer ℤ
 displayOutcome W H t cs u v = answer (readingCause W H t cs u v) (wholeWatts (tableReading W H t cs u v))
 
--- "those whole watts times the tariff ... over 1,000, nearest, halves upward; 0 for watts of 0 or less"
+-- Document 02, Three: "the cost is rounded once, from the exact reading times the tariff over 1,000, halves upward.
+-- Exact readings of zero or less still cost 0." Of n/D watts: ⌊n×tariff/(1,000×D) + 1/2⌋, which is 0 for n = 0
 abbrev pub costOf : ℤ → ℕ → ℕ
-costOf (pos w) tariff = (2 * (w * tariff) + 1000) / 2000
-costOf (negsuc w) tariff = 0
+costOf (pos n) tariff = (2 * (n * tariff) + 1000 * D) / (2 * (1000 * D))
+costOf (negsuc n) tariff = 0
 
 -- 11: "tariff above 99,999"
 unfoldable pub costOutcome : ℕ → ℕ → List ℕ → List ℤ → ℕ → ℕ → ℕ → Answer ℕ
 costOutcome W H t cs u v tariff =
     answer (readingCause W H t cs u v orElse cause 11 (ltb 99999 tariff))
-    (costOf (wholeWatts (tableReading W H t cs u v)) tariff)
+    (costOf (tableReading W H t cs u v) tariff)

@@ -1,10 +1,9 @@
--- `cost` is that of the exact reading's whole watts, or refuses as `exact` does, then for the tariff.
-use mathlib.Core.Path.{_≡_, sym, ap, _∙_}
+-- `cost` is that of the exact reading, or refuses as `exact` does, then for the tariff.
+use mathlib.Core.Path.{sym, ap, _∙_}
 use mir.Syntax.{w64}
-use mir.Val.{ofZ, toZ}
 use mir.ValLaws.{toZ-ofZ}
 use borrow.Author.Needs.{needs, sfits-of}
-use Rattle.surface.specs.Calls.{wholeWatts, costOf}
+use Rattle.surface.specs.Calls.{costOf}
 use Rattle.answers.specs.Answers.{exactAnswer}
 use Rattle.readings.proofs.ReadingLaws.{tariff-refused, cost-given, cost-refused}
 use Rattle.readings.proofs.cost.Statement.{statement}
@@ -19,18 +18,14 @@ returns c =
 
 returns-2 : tie.Need-returns-2
 returns-2 c =
-    let k = c .before .before .before .before in
+    let k = c .before .before .before in
     let a = k .before .before .before .before .args in
     let n = k .r .given .0 .0 in
-    let rounded = c .before .whole-watts .result in
-    let same : toZ w64 (ofZ w64 rounded) ≡ wholeWatts n =
-    toZ-ofZ w64 rounded (sfits-of (c .before .whole-watts .ok))
-    ∙ c .before .whole-watts .ensures .0
-    ∙ ap wholeWatts (toZ-ofZ w64 n (sfits-of (c .before .before .before .known-told .given .0 .1))) in
     cost-given (a .w) (a .h) (a .tree .now) (a .numbers .now) (a .u) (a .v) n
     (ap exactAnswer (sym (k .r .given .1)) ∙ k .before .before .exact .ensures) (a .tariff) (c .cost-of .result)
-    (c .before .before .if1 .left)
-    (c .cost-of .ensures ∙ ap (λ w. costOf w (a .tariff)) same)
+    (c .before .if1 .left)
+    (c .cost-of .ensures
+    ∙ ap (λ m. costOf m (a .tariff)) (toZ-ofZ w64 n (sfits-of (c .before .before .known-told .given .0 .1))))
 
 returns-3 : tie.Need-returns-3
 returns-3 c =
@@ -42,5 +37,5 @@ returns-3 c =
 pub cost-spec : {M : Type 1} → statement M
 cost-spec =
     tie.close
-    (tie.spec (λ c κs. search needs) (λ c. search needs) returns (λ c κs. search needs) (λ c κs. search needs)
-    (λ c. search needs) returns-2 returns-3)
+    (tie.spec (λ c κs. search needs) (λ c. search needs) returns (λ c κs. search needs) (λ c. search needs) returns-2
+    returns-3)
