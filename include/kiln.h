@@ -43,7 +43,7 @@ extern "C" {
 /* The version of this header, which is that of the library it came with. The archive itself carries none: compile a
    program with the header of the archive that it links. */
 #define KILN_VERSION_MAJOR 0
-#define KILN_VERSION_MINOR 5
+#define KILN_VERSION_MINOR 6
 #define KILN_VERSION_PATCH 0
 
 /* The table
@@ -93,6 +93,9 @@ extern "C" {
 
 /* D = 36 * 2^42: an exact reading of x watts has the numerator x * D. */
 #define KILN_DENOMINATOR INT64_C(158329674399744)
+
+/* No cost is greater, in hundredths of a cent per hour: 32,000 watts at a tariff of 99,999. */
+#define KILN_GREATEST_COST 3199968
 
 /* The places of one level of a w by h sheet: the length of kiln_activity's output. 0 for a side that is not 1 to 8 or
    a level that is not 0 to 3, which the calls refuse with another number. */
@@ -260,13 +263,16 @@ uint8_t kiln_watts(size_t w, size_t h, const uint8_t *tree, size_t tree_len, con
 uint8_t kiln_display(size_t w, size_t h, const uint8_t *tree, size_t tree_len, const int64_t *numbers,
                      size_t numbers_len, size_t u, size_t v, int64_t *watts);
 
-/* The cost per hour: the display's whole watts times the tariff over 1,000, nearest, halves upward; 0 for watts of 0
-   or less.
+/* The cost per hour: the exact watts times the tariff over 1,000, rounded once, to the nearest whole number, halves
+   upward; 0 for exact watts of 0 or less. The display's whole watts have no part in it: 31/64 watt shows as 0 and at
+   99,999 costs 48.
+
+   Versions before 0.6.0 took the display's whole watts in place of the exact ones.
 
    w, h, tree, numbers   the table
    u, v                  the point
    tariff                hundredths of a cent per kWh, 0 to 99,999
-   cost                  receives hundredths of a cent per hour
+   cost                  receives hundredths of a cent per hour, at most KILN_GREATEST_COST
 
    Refusals: 1 to 6, 11. A refusal leaves cost as it was. */
 uint8_t kiln_cost(size_t w, size_t h, const uint8_t *tree, size_t tree_len, const int64_t *numbers,

@@ -44,5 +44,6 @@ mod table;
 pub use around::ActiveFunction;
 pub use place::{Point, QuarterBox};
 pub use refusal::Refusal;
-pub use sizes::{file_counts, level_places, place_of, places, DENOMINATOR, FILE_BYTES, NOTE_BYTES, TREE_BYTES};
+pub use sizes::{file_counts, level_places, place_of, places};
+pub use sizes::{DENOMINATOR, FILE_BYTES, GREATEST_COST, NOTE_BYTES, TREE_BYTES};
 pub use table::{Levels, Table};

@@ -66,19 +66,28 @@ impl Table {
         Ok(ffi::display(self.sheet(), self.tree(), self.numbers(), point.steps())?)
     }
 
-    /// The cost per hour in hundredths of a cent: the display's watts times the tariff (hundredths of a cent per kWh,
-    /// 0 to 99,999) over 1,000, nearest, halves upward; 0 for watts of 0 or less.
+    /// The cost per hour in hundredths of a cent: the exact watts times the tariff (hundredths of a cent per kWh, 0 to
+    /// 99,999) over 1,000, rounded once, to the nearest, halves upward; 0 for exact watts of 0 or less. It is at most
+    /// [`GREATEST_COST`](crate::GREATEST_COST).
+    ///
+    /// Versions before 0.6.0 took the display's whole watts in place of the exact ones.
     ///
     /// Refused: a point off the sheet, a tariff above 99,999.
     ///
     /// ```
-    /// use kiln::{Point, Refusal, Table};
+    /// use kiln::{places, Point, Refusal, Table};
     ///
     /// let (table, point) = (Table::fresh(1, 1, 1)?, Point::new(0, 0));
     /// assert_eq!(table.cost(point, 1_499)?, 1);
     /// assert_eq!(table.cost(point, 1_500)?, 2);
     /// assert_eq!(table.cost(point, 100_000), Err(Refusal::Tariff));
     /// assert_eq!(Table::fresh(1, 1, -1)?.cost(point, 1_500)?, 0);
+    ///
+    /// // Columns of -1, 0, 1 and 2 watts: at the point (62, 0) the exact reading is 31/64 watt, which shows as 0.
+    /// let mut numbers = [-1, 0, 1, 2].repeat(4);
+    /// numbers.resize(places(1, 1), 0);
+    /// let (standby, point) = (Table::from_parts(1, 1, &[0], &numbers)?, Point::new(62, 0));
+    /// assert_eq!((standby.display(point)?, standby.cost(point, 99_999)?), (0, 48));
     /// # Ok::<(), Refusal>(())
     /// ```
     pub fn cost(&self, point: Point, tariff: usize) -> Result<usize, Refusal> {

@@ -8,6 +8,16 @@
 /// ```
 pub const DENOMINATOR: i64 = 158_329_674_399_744;
 
+/// No cost is greater, in hundredths of a cent per hour.
+///
+/// ```
+/// use kiln::{Point, Table, GREATEST_COST};
+///
+/// assert_eq!(Table::fresh(8, 8, 32_000)?.cost(Point::new(900, 200), 99_999)?, GREATEST_COST);
+/// # Ok::<(), kiln::Refusal>(())
+/// ```
+pub const GREATEST_COST: usize = 3_199_968;
+
 /// No tree is longer, in bytes.
 ///
 /// ```

@@ -1,5 +1,5 @@
 //! The crate has the numbers of the C headers.
-use kiln::{places, Refusal, DENOMINATOR, FILE_BYTES, NOTE_BYTES, TREE_BYTES};
+use kiln::{places, Refusal, DENOMINATOR, FILE_BYTES, GREATEST_COST, NOTE_BYTES, TREE_BYTES};
 
 const HEADER: &str = include_str!(concat!(env!("CARGO_MANIFEST_DIR"), "/../include/kiln.h"));
 const REFUSALS: &str = include_str!(concat!(env!("CARGO_MANIFEST_DIR"), "/../include/kiln_refusal.h"));
@@ -27,6 +27,7 @@ fn the_fixed_numbers_are_those_of_the_header() {
         leading_number(value.strip_prefix("INT64_C(").unwrap_or(value))
     };
     assert_eq!(defined("KILN_DENOMINATOR"), DENOMINATOR);
+    assert_eq!(defined("KILN_GREATEST_COST"), GREATEST_COST as i64);
     assert_eq!(defined("KILN_TREE_BYTES"), TREE_BYTES as i64);
     assert_eq!(defined("KILN_NOTE_BYTES"), NOTE_BYTES as i64);
     assert_eq!(defined("KILN_FILE_BYTES"), FILE_BYTES as i64);

@@ -14,6 +14,7 @@ from edges import lent, room
 from library import Answer, Float, Lent, Library, Scalar, numbers, octets
 
 TARIFF, TARIFFS = 12_345, (0, 499, 500, 1_499, 1_500, 99_999, 100_000)
+PRICED_AT = (5, 7)
 NOTE = bytes(range(64))
 
 
@@ -87,7 +88,7 @@ def about(lib: Library, t: Table) -> Iterator[Tuple[str, Answer]]:
     for watts in (700, 32_001):
         yield f"fresh {watts}", lib.fresh(t.w, t.h, watts, *outputs(t, 3))
     for tariff in TARIFFS:
-        yield f"cost {tariff}", lib.cost(*held, 5, 7, tariff)
+        yield f"cost {tariff}", lib.cost(*held, *PRICED_AT, tariff)
 
 
 def answers_about(lib: Library, name: str, t: Table, good: bool) -> Iterator[str]:
@@ -96,7 +97,7 @@ def answers_about(lib: Library, name: str, t: Table, good: bool) -> Iterator[str
     yield f"{name}: {t.w} by {t.h}, tree {digest(held[2].given)}, coefficients {digest(held[3].given)}"
     for words, got in chain(about(lib, t), about_files(lib, t) if good else ()):
         yield f"{name}, {words}: {said(got)}"
-    for u, v in points(t) if good else [(5, 7)]:
+    for u, v in points(t) if good else [PRICED_AT]:
         read = *(call(*held, u, v) for call in (lib.exact, lib.watts, lib.display)), lib.cost(*held, u, v, TARIFF)
         yield f"{name} ({u}, {v}): {', '.join(map(said, read))}"
 

@@ -1,7 +1,8 @@
 """Holds the compiled library to the answers that a revision before it gave, bit for bit (answers.txt).
 
 Run as: python3 tests/answers/check_answers.py; or with --write REVISION, in a clone whose crates are those of the
-revision, to write its answers. A change that is to move an answer writes them anew and says so in its note.
+revision, to write its answers. A change that is to move an answer writes them anew and says so in its note. The costs
+kept were last moved by document 02, Three; they are also held to the exact readings kept, by the evaluator's rule.
 """
 from __future__ import annotations
 
@@ -9,16 +10,19 @@ import subprocess
 import sys
 from argparse import ArgumentParser
 from collections import Counter
+from fractions import Fraction
 from itertools import count, zip_longest
+from re import compile as pattern
 from typing import Iterator, List, Sequence
 
 sys.dont_write_bytecode = True
 
 from answered_tables import ROOT, accepted, drawn, points, steps_at
-from answers import answers, answers_about
+from answers import PRICED_AT, TARIFF, answers, answers_about
+from calls import cost_of, watts_at
 from library import GUARD, Inside, Lent, Library, shared
 from measure import CALLS
-from surface import STEPS_PER_CELL
+from surface import D, STEPS_PER_CELL
 
 KEPT = ROOT / "tests/answers/answers.txt"
 # So many faults are shown; so many readings must be made by each step of subdivision; and so many bits be turned.
@@ -26,6 +30,9 @@ MOST, STEPS, TURNED = 10, 20, 150
 WORDS = """# Answers of the library at revision %s, to which check_answers.py holds it: of each call the number that it
 # returned, what its scalars then hold, an f64 by its bits, and each slice that is not as it was lent, by its place,
 # with its length and a digest; "lent" is as it was lent. At a point: exact reading, f64, display and cost."""
+# A cost that was given: of a table at a tariff, and at a point after the exact reading, the f64 and the display.
+PRICED, READ = pattern(r"(.+), cost (\d+): 0 (\d+)"), pattern(r".+ \(\d+, \d+\): 0 (-?\d+), .*, 0 (\d+)")
+COSTS = 3_000
 
 
 class Off(Inside):
@@ -72,6 +79,16 @@ def untold(inside: Inside) -> List[str]:
     return told + ([] if tried >= TURNED else [f"only {tried} bits were turned"])
 
 
+def mispriced(kept: Sequence[str]) -> List[str]:
+    """Costs that are not those of the exact readings kept, or of the evaluator's at the one point where a table is asked
+    at several tariffs."""
+    watts = {name: watts_at(*t, *PRICED_AT) for name, t in accepted().items()}
+    due = [(line, cost_of(watts[m[1]], int(m[2])), int(m[3])) for line in kept if (m := PRICED.fullmatch(line))]
+    due += [(line, cost_of(Fraction(int(m[1]), D), TARIFF), int(m[2])) for line in kept if (m := READ.fullmatch(line))]
+    told = [f"the cost kept is not {cost}:\n  {line}" for line, cost, told in due if cost != told]
+    return told + ([] if len(due) >= COSTS else [f"only {len(due)} costs are kept"])
+
+
 def thin(lib: Library) -> List[str]:
     """Calls that were never accepted or never refused, and steps of subdivision that few readings are made by."""
     made = {kind.rpartition(", ")[2]: given for kind, given in lib.counts.items()}
@@ -96,7 +113,7 @@ def main() -> int:
         KEPT.write_text("\n".join([WORDS % revision, *given, ""]), encoding="utf-8")
         return 0
     kept = [line for line in KEPT.read_text(encoding="utf-8").splitlines() if not line.startswith("#")]
-    faults = [*untold(inside), *thin(lib), *differences(kept, given)]
+    faults = [*mispriced(kept), *untold(inside), *thin(lib), *differences(kept, given)]
     print("\n".join(faults[:MOST] + [f"answers: {len(given)} compared with those kept, {len(faults)} faults"]))
     return 1 if faults else 0
 

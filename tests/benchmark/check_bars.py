@@ -14,9 +14,10 @@ from typing import Callable, Iterator, List, Tuple
 sys.dont_write_bytecode = True
 
 import bars
+from calls import watts_at
 from measure import BEYONDS, CALLS, EXACT, EXACT_1, EXACT_2, LARGEST, LARGEST_FILE, MEASURED, READ, READ_UNCOUNTED
-from measure import READINGS, ROOT, UNREFINED, Figures, Measured, all_figures, calls_on, counted_on, stacked_on
-from measure import table_names
+from measure import READINGS, ROOT, UNREFINED, Figures, Measured, all_figures, calls_on, counted_on, point_of
+from measure import stacked_on, table_names, tables
 
 PAGE, HEADER = ROOT / "docs/BENCHMARKS.md", ROOT / "include/kiln.h"
 # What reads a file, what writes one, and what reads at a point, named here again.
@@ -141,6 +142,12 @@ def unmeasured() -> List[str]:
     return [f"kiln_{call}: declared or measured, but not both" for call in sorted(declared ^ set(CALLS))]
 
 
+def unpriced() -> List[str]:
+    """A line where no cost is measured of a reading above zero: the others cost 0 at once."""
+    above = (name for name, t in tables() if "cost" in calls_on(name) and watts_at(*t, *point_of(t, EXACT)) > 0)
+    return [] if any(above) else ["no cost is measured of a reading above zero"]
+
+
 def other_bars() -> List[str]:
     """A line where the page's bars, the first two cells of its rows, are not those that are compared."""
     part = PAGE.read_text(encoding="utf-8").partition("\n## Bars\n")[2].partition("\n## ")[0]
@@ -153,7 +160,7 @@ def main() -> int:
     parser = ArgumentParser(prog="check_bars.py")
     parser.add_argument("--self-test", action="store_true", help="only see that figures past each bar are told")
     alone = parser.parse_args().self_test
-    faults = self_test() + unmeasured() + other_bars()
+    faults = self_test() + unmeasured() + unpriced() + other_bars()
     words = f"{len(bars.BARS)} bars, {sum(1 for _ in pushes())} made-up figures put past one"
     if not alone:
         figures = all_figures(with_times=False)

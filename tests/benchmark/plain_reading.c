@@ -127,13 +127,19 @@ uint8_t plain_display(size_t w, size_t h, const uint8_t *tree, size_t tree_len, 
   return cause;
 }
 
+/* n × tariff over 1,000 × D, to the nearest, halves upward. 64 bits do not hold n × tariff; with n = D × q + r they hold
+   r × tariff + 500 × D, and q × tariff is added to what that is over D. */
+static size_t nearest_cost(uint64_t n, size_t tariff) {
+  uint64_t d = (uint64_t)D;
+  return (n / d * tariff + (n % d * tariff + 500 * d) / d) / 1000;
+}
+
 uint8_t plain_cost(size_t w, size_t h, const uint8_t *tree, size_t tree_len, const int64_t *numbers,
                    size_t numbers_len, size_t u, size_t v, size_t tariff, size_t *cost) {
   int64_t n;
   uint8_t cause = read_point(w, h, tree, tree_len, numbers, numbers_len, u, v, &n);
   if (cause) return cause;
   if (tariff > 99999) return BAD_TARIFF;
-  int64_t watts = whole_watts(n);
-  *cost = watts <= 0 ? 0 : (2 * ((size_t)watts * tariff) + 1000) / 2000;
+  *cost = n <= 0 ? 0 : nearest_cost((uint64_t)n, tariff);
   return 0;
 }

@@ -4,6 +4,8 @@ from __future__ import annotations
 from typing import Iterator, NamedTuple, Tuple
 
 import tablefile
+from calls import former_cost_of
+from cost_cases import greatest_change
 from library import numbers, octets
 from make_tables import LIBRARY, ROOT, TABLES
 from surface import D, total_places
@@ -29,6 +31,10 @@ def figures(table: tablefile.Content, u: int, v: int) -> Figures:
     return Figures(*(answer.said()[1] for answer in answers))
 
 
+def cost_at(table: tablefile.Content, u: int, tariff: int) -> int:
+    return LIBRARY.cost(table.w, table.h, octets(table.tree), numbers(table.coefficients), u, 0, tariff).said()[1]
+
+
 def sloping(columns: Tuple[int, int, int, int]) -> tablefile.Content:
     """An unrefined table of 1 by 1 with these columns, in all rows."""
     return tablefile.Content(1, 1, [0], list(columns) * 4 + [0] * (total_places(1, 1) - 16))
@@ -45,6 +51,21 @@ def damaged() -> Tuple[int, int]:
     return 8 * len(file), loaded
 
 
+def cost_changed(at: Figures) -> Iterator[str]:
+    """What is told of a cost that changed: a worked example, and the greatest change at two tariffs."""
+    before, watts = former_cost_of(at.shown, TARIFF), f"{at.exact / D:,.4f}"
+    yield f"| Exact watts | {at.exact}/{D} = {watts} | the same |"
+    yield f"| Shown | {at.shown:,} W | {at.shown:,} W |"
+    yield f"| Priced | {at.shown:,} W, the ones shown | {watts} W |"
+    yield f"| Times 2,950 over 1,000 | {at.shown * TARIFF / 1_000:,.2f} | {at.exact * TARIFF / D / 1_000:,.2f} |"
+    yield f"| Cost | {before:,}: {before / 100} cents an hour | {at.cost:,}: {at.cost / 100} cents an hour |"
+    yield f"{greatest_change(TARIFF)} hundredths an hour at 2,950, {greatest_change(99_999)} at the greatest tariff"
+    standby = sloping((-1, 0, 1, 2))
+    cheaper, dear, plain = (cost_at(standby, u, tariff) for u, tariff in ((96, 600), (62, 99_999), (62, TARIFF)))
+    yield f"at 600, 0.75 W cost {former_cost_of(1, 600)} as the 1 W that is shown, and costs {cheaper} now"
+    yield f"31/64 watt at 99,999 costs {dear} now, at 2,950 it costs {plain}"
+
+
 def told() -> Iterator[Tuple[str, str]]:
     """Pages, each with a sentence that it must have."""
     why = "docs/WHY.md"
@@ -52,15 +73,18 @@ def told() -> Iterator[Tuple[str, str]]:
         "kiln-unrefined", REFINED, "kiln-fitted-near-top-heat", "bench-s"))
     at, there = figures(plain, 900, 200), figures(plain, 900, 201)
     yield "README.md", f"prints `{at.shown} watts, {at.cost} hundredths of a cent an hour`"
-    four, below, half = figures(sloping((4,) * 4), 0, 0), *(figures(sloping((-1, 0, 1, 2)), u, 0) for u in (63, 64))
+    four = figures(sloping((4,) * 4), 0, 0)
+    below, half, tiny = (figures(sloping((-1, 0, 1, 2)), u, 0) for u in (63, 64, 21))
     yield why, f"| 4 W | {four.shown} W | 2,950 | 4 × 2,950 / 1,000 = 11.8, so {four.cost}:"
     yield why, f"| 4 W | {four.shown} W | 30, that is cents | 0.12, so {four.cost_in_cents} |"
-    yield why, f"| 0.49 W ({below.exact * 128 // D}/128) | {below.shown} W | 2,950 | {below.cost} |"
-    yield why, f"| {half.exact / D} W | {half.shown} W | 2,950 | 2.95, so {half.cost}:"
+    yield why, f"| 0.49 W ({below.exact * 128 // D}/128) | {below.shown} W | 2,950 | 1.45, so {below.cost}:"
+    yield why, f"| {half.exact / D} W | {half.shown} W | 2,950 | 1.475, so {half.cost}:"
+    yield why, f"| 0.16 W ({tiny.exact * 128 // D}/128) | {tiny.shown} W | 2,950 | 0.48, so {tiny.cost} |"
     none, minus = (figures(sloping((watts,) * 4), 0, 0) for watts in (0, -3))
     yield why, f"| 0 W, or −3 W | {none.shown} W, −{-minus.shown} W | any | {none.cost + minus.cost} |"
-    yield why, f"| 4,013 W | {at.shown:,} W | 2,950 | {at.cost:,}: {at.cost / 100} cents |"
-    yield why, f"| 4,013 W | {at.shown:,} W | 30, that is cents | {at.cost_in_cents}: 1.20 cents |"
+    yield why, f"| {at.exact / D:,.1f} W | {at.shown:,} W | 2,950 | {at.cost:,}: {at.cost / 100} cents |"
+    yield why, f"| {at.exact / D:,.1f} W | {at.shown:,} W | 30, that is cents | {at.cost_in_cents}: 1.20 cents |"
+    yield from (("docs/WHY.md", sentence) for sentence in cost_changed(at))
     yield why, f"at U 900 it is {at.shown:,} W at V 200 and {there.shown:,} W one step further"
     for same in (at, figures(refined, 900, 200)):
         yield why, f"the unrefined sample table and its refined copy both give {same.exact}/{D}"

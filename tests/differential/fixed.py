@@ -7,6 +7,7 @@ from random import Random
 from typing import List, Sequence, Tuple
 
 import cases
+import costs
 import counted_files
 import edges
 import files
@@ -256,9 +257,9 @@ def whole_grids(rng: Random, lib: Library) -> List[str]:
 
 def faults(lib: Library, seed: int, grids: bool) -> List[str]:
     """What is not as it should be in any fixed case, whole grids among them or not; the seed draws lists of insertions,
-    tables and files, but nothing of the levels."""
+    tables and files, but nothing of the levels and the costs."""
     found = bench_sheet(lib) + bench_readings(lib) + bench_insertions(lib) + bench_files(lib)
-    found += two_faults_of_tables(lib) + two_faults_of_calls(lib) + quarter_levels.fixed(lib)
+    found += two_faults_of_tables(lib) + two_faults_of_calls(lib) + quarter_levels.fixed(lib) + costs.fixed(lib)
     if grids:
         found += whole_grids(Random(seed), lib)
     for part in (edges, files, counted_files, noted_files):

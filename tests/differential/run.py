@@ -20,6 +20,7 @@ from time import monotonic, sleep
 from traceback import print_exc
 from typing import Callable, Dict, Iterator, List, Tuple
 
+import costs
 import demands
 import files
 import fixed
@@ -40,7 +41,7 @@ FIXED, LIMIT_SECONDS = -1, 600
 Begun = Callable[[int], None]
 
 KINDS: Dict[str, Callable[[Random, Library], Iterator[str]]] = {
-    **tables.KINDS, **insertions.KINDS, **files.KINDS, **saving.KINDS, **demands.KINDS}
+    **tables.KINDS, **costs.KINDS, **insertions.KINDS, **files.KINDS, **saving.KINDS, **demands.KINDS}
 
 
 def one_case(lib: Library, number: int, seed: int) -> Iterator[str]:

@@ -285,19 +285,27 @@ def display(w: int, h: int, tree: Sequence[int], coefficients: Sequence[int], u:
     return _after(("ok", watts), tree=tree, coefficients=coefficients)
 
 
-# Document 01, Readings: 'those whole watts times the tariff ... over 1,000'; '0 for watts of 0 or less'.
-def cost_of(whole_watts: int, tariff: int) -> int:
+# Document 02, Three: 'rounded once, from the exact reading times the tariff over 1,000, halves upward. Exact readings
+# of zero or less still cost 0.'
+def cost_of(watts: Fraction, tariff: int) -> int:
+    return 0 if watts <= 0 else round_half_up(watts * tariff / 1_000)
+
+
+# The rule before it, document 01, Readings: 'those whole watts times the tariff ... over 1,000, nearest, halves upward;
+# 0 for watts of 0 or less'. Cases tell the two apart by it; no call follows it.
+def former_cost_of(whole_watts: int, tariff: int) -> int:
     return 0 if whole_watts <= 0 else round_half_up(Fraction(whole_watts * tariff, 1_000))
 
 
-# Document 01, Readings, 'Cost per hour'; 1 to 6, 11. Answer ('ok', hundredths of a cent); lent tree and coefficients.
+# Document 01, Calls, 'cost a tariff too'; 1 to 6, 11. Answer ('ok', hundredths of a cent); lent tree and coefficients.
 def cost(w: int, h: int, tree: Sequence[int], coefficients: Sequence[int], u: int, v: int, tariff: int) -> Outcome:
-    shown = display(w, h, tree, coefficients, u, v)
-    if shown.answer[0] == "refused":
-        return shown
-    if not 0 <= tariff <= GREATEST_TARIFF:
-        return Outcome(refused(11), shown.lent)
-    return Outcome(("ok", cost_of(shown.answer[1], tariff)), shown.lent)
+    cause = judge_reading(w, h, tree, coefficients, u, v)
+    if cause is None and not 0 <= tariff <= GREATEST_TARIFF:
+        cause = 11
+    if cause is not None:
+        return _after(refused(cause), tree=tree, coefficients=coefficients)
+    hundredths = cost_of(watts_at(w, h, tree, coefficients, u, v), tariff)
+    return _after(("ok", hundredths), tree=tree, coefficients=coefficients)
 
 
 # Document 01, The table file: 'Reading fills a tree buffer and a coefficient slice.'; byte order, in which 20 has its

@@ -12,6 +12,7 @@ from fractions import Fraction
 from typing import Callable, List, Sequence, Tuple
 
 import calls
+import cost_cases
 import file_cases
 import level_cases
 import note_cases
@@ -305,6 +306,9 @@ GROUPS = [
     ("corner program", corners),
     ("refusals", refusals),
     ("levels under a box", level_cases.greatest_levels),
+    ("costs", cost_cases.costs),
+    ("where a cost rises", cost_cases.nearest),
+    ("costs beside those before", cost_cases.changes),
     ("table files", file_cases.files),
     ("counts in a file", file_cases.counts),
     ("counts and other causes", file_cases.counts_in_order),
@@ -332,6 +336,7 @@ GROUPS = [
     ("misreadings on the bench sheet", bench_misreadings),
     ("misreadings on the properties", properties.misreadings),
     ("misreadings of the levels under a box", level_cases.greatest_misreadings),
+    ("misreadings of the cost", cost_cases.cost_misreadings),
     ("misreadings of saving", saved_files.saving_misreadings),
     ("misreadings of a note that is read", note_misreadings.loading_misreadings),
     ("misreadings of a note that is saved", note_misreadings.writing_misreadings),

@@ -254,6 +254,8 @@ static void costs(void) {
   HELD(kiln_table_cost(&table, at(7, 9), 1500, &cost) == KILN_DONE && cost == 2);
   HELD(kiln_table_cost(&table, at(7, 9), 100000, &cost) == KILN_TARIFF && cost == 2);
   HELD(kiln_table_cost(&table, at(0, 385), 100000, &cost) == KILN_POINT && cost == 2);
+  HELD(kiln_table_fresh(sheet(2, 3), 32000, room_a, &table) == KILN_DONE);
+  HELD(kiln_table_cost(&table, at(7, 9), 99999, &cost) == KILN_DONE && cost == KILN_GREATEST_COST);
 }
 
 /* What a plain call takes of a table. */
