@@ -8,7 +8,7 @@ use native.Mathlib.Nat.{le-refl, le-antisymm, one-le-pow, mul-comm, mul-left-com
 use native.Mathlib.Omega.{arith}
 use lib.IntN.{ℤ, pos, _*ℤ_}
 use lib.ListN.{length, replicate, length-replicate}
-use lib.Dec.{ltb, eqb, lit<, lit≤}
+use lib.Dec.{eqb, lit<, lit≤}
 use lib.Signed.{_≤ℤ_}
 use borrow.Author.Tests.{le-ltb, eq-eqb}
 use Rattle.finite.specs.Range.{sum, every, least, greatest, tableFrom, rowsFrom, total, count}
@@ -22,8 +22,8 @@ use Rattle.surface.specs.Spline.{cellOf, piece}
 use Rattle.surface.specs.Truncation.{D}
 use Rattle.surface.specs.Patch.{patch}
 use Rattle.surface.specs.Table.{levels, places, start, coefficients, withinLimits, passiveZero}
-use Rattle.surface.specs.Table.{regionCause, cause, tableCause, Acceptable, tableReading}
-use Rattle.surface.specs.Calls.{gives, activityBytes, activityCause, activityOutcome, leastOutcome}
+use Rattle.surface.specs.Table.{regionCause, tableCause, Acceptable, tableReading}
+use Rattle.surface.specs.Calls.{activityBytes, activityCause, activityOutcome, leastOutcome}
 use Rattle.surface.specs.Calls.{readingCause, exactOutcome}
 use Rattle.surface.specs.Demands.{Around}
 use Rattle.bench.specs.Bench.{rows, zeros, refined, columnsS, S, flat, first, second, columnsCarried}

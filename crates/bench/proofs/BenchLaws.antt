@@ -68,11 +68,11 @@ read t cs u v L n none hu hv small stops value =
     rw (none, any-level 1 1 (levels t) (coefficients 1 1 cs) u v (lit< tt) (lit< tt) hu hv L small stops .1, value)
 
 -- where the exact reading is n, the display shows its whole watts and the cost is its cost
-pub priced : (W H : ℕ) (t : List ℕ) (cs : List ℤ) (u v tariff : ℕ) (n : ℤ) → exactOutcome W H t cs u v ≡ gives n
+pub figures : (W H : ℕ) (t : List ℕ) (cs : List ℤ) (u v tariff : ℕ) (n : ℤ) → exactOutcome W H t cs u v ≡ gives n
     → tariff ≤ 99999
     → (displayOutcome W H t cs u v ≡ gives (wholeWatts n)) × (costOutcome W H t cs u v tariff ≡ gives (costOf n tariff))
 unfolding displayOutcome readingCause
-priced W H t cs u v tariff n e h =
+figures W H t cs u v tariff n e h =
     let g = reading-given W H t cs u v n .0 e in
     (rw (g .0, g .1, g .2), cost-given W H t cs u v tariff (costOf n tariff) .1 (n, e, h, refl))
 

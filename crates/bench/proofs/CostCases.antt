@@ -1,18 +1,21 @@
--- The cases of the cost: each reading by its patch, which computes, and the rest by it.
-use mathlib.Core.Path.{_≡_, refl}
-use Prim.Native.Nat.{ℕ, _≤_, min}
+-- The cases of the cost: each reading by its patch, which computes, and the rest by it. How far the rules are apart.
+use mathlib.Core.Path.{_≡_, refl, sym, ap, _∙_}
+use Prim.Native.Nat.{ℕ, _+_, _*_, _/_, _%_, _≤_, min}
+use native.Mathlib.Nat.{le-refl, mul-le-mul, add-mul, mul-assoc}
+use native.Mathlib.Omega.{arith}
 use lib.Dec.{lit≤, lit<}
 use Rattle.finite.specs.Range.{sum, every, least, greatest, tableFrom, rowsFrom}
 use Rattle.surface.specs.Sheet.{eighths}
 use Rattle.surface.specs.Quadtree.{parse, wellFormed, levelAt}
 use Rattle.surface.specs.Support.{leastUnder}
 use Rattle.surface.specs.Spline.{cellOf, piece}
+use Rattle.surface.specs.Truncation.{D}
 use Rattle.surface.specs.Patch.{patch, evaluated, stopLevel}
 use Rattle.surface.specs.Table.{levels, start, coefficients, sliceFrom, withinLimits, passiveZero, regionCause}
 use Rattle.surface.specs.Table.{tableCause}
 use Rattle.surface.specs.Calls.{freshOutcome, readingCause, wholeWatts, costOf}
-use Rattle.bench.specs.CostCases.{CostCase, Holds, formerCost, CostCases}
-use Rattle.bench.proofs.BenchLaws.{read, priced}
+use Rattle.bench.specs.CostCases.{CostCase, Holds, formerCost, CostCases, CostMoved}
+use Rattle.bench.proofs.BenchLaws.{read, figures}
 
 -- by what computes: the causes, the patch of a level, and the roundings
 holds : (L : ℕ) (c : CostCase) → readingCause 1 1 (c .tree) (c .numbers) (c .u) (c .v) ≡ 0 → c .u ≤ 128 → c .v ≤ 128
@@ -22,7 +25,7 @@ holds : (L : ℕ) (c : CostCase) → readingCause 1 1 (c .tree) (c .numbers) (c 
     → c .tariff ≤ 99999 → costOf (c .numerator) (c .tariff) ≡ c .cost → Holds c
 holds L c none hu hv small stops value whole former fair cost =
     let e = read (c .tree) (c .numbers) (c .u) (c .v) L (c .numerator) none hu hv small stops value in
-    let p = priced 1 1 (c .tree) (c .numbers) (c .u) (c .v) (c .tariff) (c .numerator) e fair in
+    let p = figures 1 1 (c .tree) (c .numbers) (c .u) (c .v) (c .tariff) (c .numerator) e fair in
     record { exact = e; display = rw whole at p .0; former = former; costs = rw cost at p .1 }
 
 pub cost-cases : CostCases
@@ -38,6 +41,7 @@ cost-cases =
       leastAboveZero = holds 3 _ refl (lit≤ tt) (lit≤ tt) (lit≤ tt) (lit≤ tt) refl refl refl (lit≤ tt) refl;
       zero = holds 0 _ refl (lit≤ tt) (lit≤ tt) (lit≤ tt) (lit≤ tt) refl refl refl (lit≤ tt) refl;
       belowZero = holds 0 _ refl (lit≤ tt) (lit≤ tt) (lit≤ tt) (lit≤ tt) refl refl refl (lit≤ tt) refl;
+      farBelow = holds 0 _ refl (lit≤ tt) (lit≤ tt) (lit≤ tt) (lit≤ tt) refl refl refl (lit≤ tt) refl;
       oneMore = holds 0 _ refl (lit≤ tt) (lit≤ tt) (lit≤ tt) (lit≤ tt) refl refl refl (lit≤ tt) refl;
       oneLess = holds 0 _ refl (lit≤ tt) (lit≤ tt) (lit≤ tt) (lit≤ tt) refl refl refl (lit≤ tt) refl;
       half = holds 0 _ refl (lit≤ tt) (lit≤ tt) (lit≤ tt) (lit≤ tt) refl refl refl (lit≤ tt) refl;
@@ -46,3 +50,23 @@ cost-cases =
       oneWattHalf = holds 0 _ refl (lit≤ tt) (lit≤ tt) (lit≤ tt) (lit≤ tt) refl refl refl (lit≤ tt) refl;
       greatest = holds 0 _ refl (lit≤ tt) (lit≤ tt) (lit≤ tt) (lit≤ tt) refl refl refl (lit≤ tt) refl;
     }
+
+-- 2×n + D is 2×D×w + r, with w the watts shown and r below 2×D; so it is times the tariff
+shown-times : (n t : ℕ)
+    → 2 * (n * t) + D * t ≡ 2 * D * ((2 * n + D) / (2 * D) * t) + (2 * n + D) % (2 * D) * t
+shown-times n t =
+    let w = (2 * n + D) / (2 * D) in
+    let r = (2 * n + D) % (2 * D) in
+    let parts : 2 * n + D ≡ 2 * D * w + r = omega arith in
+    ap (λ m. m + D * t) (sym (mul-assoc 2 n t))
+    ∙ sym (add-mul (2 * n) D t)
+    ∙ ap (λ m. m * t) parts
+    ∙ add-mul (2 * D * w) r t
+    ∙ ap (λ m. m + r * t) (mul-assoc (2 * D) w t)
+
+pub cost-moved : CostMoved
+unfolding wholeWatts
+cost-moved n t =
+    let e = shown-times n t in
+    let small : (2 * n + D) % (2 * D) * t ≤ 2 * D * t = mul-le-mul (omega arith) (le-refl t) in
+    (omega (arith, e, small), omega (arith, e, small))

@@ -3,7 +3,7 @@
 use mathlib.Core.Path.{_≡_}
 use mathlib.Core.Bool.{true}
 use mathlib.Core.List.{List, [], _∷_, _++_}
-use Prim.Native.Nat.{ℕ, _+_, _*_, _^_, _%_}
+use Prim.Native.Nat.{ℕ, _+_, _%_}
 use lib.IntN.{ℤ, pos, negℤ}
 use lib.ListN.{length, replicate, take}
 use Rattle.surface.specs.Quadtree.{bytes, regionTree}

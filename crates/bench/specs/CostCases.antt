@@ -2,11 +2,11 @@
 -- reads, the watts shown, and the cost by document 01's rule, which the request replaces, and by the new one.
 use mathlib.Core.Path.{_≡_}
 use mathlib.Core.List.{List, _∷_, [], _++_}
-use Prim.Native.Nat.{ℕ, _+_, _*_, _/_, _^_, _<_}
-use lib.IntN.{ℤ, pos, negsuc, negℤ, _+ℤ_}
+use Prim.Native.Nat.{ℕ, _+_, _*_, _/_, _^_, _≤_, _<_}
+use lib.IntN.{ℤ, pos, negsuc, negℤ, _+ℤ_, _*ℤ_}
 use lib.ListN.{replicate}
 use Rattle.surface.specs.Truncation.{D}
-use Rattle.surface.specs.Calls.{gives, freshOutcome, exactOutcome, displayOutcome, costOutcome}
+use Rattle.surface.specs.Calls.{gives, freshOutcome, exactOutcome, wholeWatts, displayOutcome, costOf, costOutcome}
 use Rattle.bench.specs.Bench.{rows, zeros, flat}
 
 -- Document 01: "those whole watts times the tariff ... over 1,000, nearest, halves upward; 0 for watts of 0 or less"
@@ -54,15 +54,15 @@ onSlope u tariff watts formerly cost =
     }
 
 -- A fresh table of so many watts, at (9, 9).
-abbrev pub ofFresh : (watts tariff formerly cost : ℕ) → CostCase
+abbrev pub ofFresh : (watts : ℤ) (tariff formerly cost : ℕ) → CostCase
 ofFresh watts tariff formerly cost =
     record {
       tree = flat;
-      numbers = freshOutcome 1 1 (pos watts) flat (zeros 211) .numbers;
+      numbers = freshOutcome 1 1 watts flat (zeros 211) .numbers;
       u = 9;
       v = 9;
-      numerator = pos (watts * D);
-      watts = pos watts;
+      numerator = pos D *ℤ watts;
+      watts = watts;
       tariff = tariff;
       formerly = formerly;
       cost = cost;
@@ -111,6 +111,8 @@ pub record CostCases : Type 0 where
         formerly = 0;
         cost = 0;
       })
+  -- 9 watts below zero, which shows as −9.
+  pub farBelow : Holds (ofFresh (negℤ (pos 9)) 99999 0 0)
   -- The rules differ by one, both ways: 1/4 watt at 2,000 is 0.5, "halves upward"; 3/4 watt at 600 is 0.45.
   pub oneMore : Holds (onSlope 32 2000 (pos 0) 0 1)
   pub oneLess : Holds (onSlope 96 600 (pos 1) 1 0)
@@ -119,7 +121,16 @@ pub record CostCases : Type 0 where
   -- "rounded once": half a watt at 2,999 is 1,499.5 over 1,000; rounded to 1,500 first, it would cost 2.
   pub once : Holds (onSlope 64 2999 (pos 1) 3 1)
   -- "Fresh table of 1 watt: tariff 1,499 costs 1, tariff 1,500 costs 2."
-  pub oneWatt : Holds (ofFresh 1 1499 1 1)
-  pub oneWattHalf : Holds (ofFresh 1 1500 2 2)
+  pub oneWatt : Holds (ofFresh (pos 1) 1499 1 1)
+  pub oneWattHalf : Holds (ofFresh (pos 1) 1500 2 2)
   -- The greatest cost there is (CostFits): numerator times tariff is 5×10^23, which 64 bits do not hold.
-  pub greatest : Holds (ofFresh 32000 99999 3199968 3199968)
+  pub greatest : Holds (ofFresh (pos 32000) 99999 3199968 3199968)
+
+-- ---- how far the rules are apart
+
+-- Of a reading not below zero, at most what half a watt costs, rounded up. (Below zero both cost 0.)
+abbrev pub CostMoved : Type 0
+CostMoved =
+    (n tariff : ℕ)
+    → (costOf (pos n) tariff ≤ formerCost (wholeWatts (pos n)) tariff + (tariff + 1999) / 2000)
+    × (formerCost (wholeWatts (pos n)) tariff ≤ costOf (pos n) tariff + (tariff + 1999) / 2000)

@@ -1,9 +1,8 @@
 -- What follows from the exact reading, given or refused.
 use mathlib.Core.Path.{_≡_, refl, sym, ap, _∙_, subst}
-use mathlib.Core.Bool.{Bool, true, false}
 use mathlib.Core.List.{List}
-use Prim.Native.Nat.{ℕ, _^_, _≤_, _<_}
-use borrow.Author.Tests.{lt-ltb, le-ltb}
+use Prim.Native.Nat.{ℕ, _^_, _<_}
+use borrow.Author.Tests.{lt-ltb}
 use lib.Dec.{ltb}
 use lib.IntN.{ℤ}
 use lib.Ieee.{Float}
@@ -23,21 +22,12 @@ module _ (W H : ℕ) (t : List ℕ) (cs : List ℤ) (u v : ℕ) where
     unfolding displayOutcome exactOutcome
     display-given = gives-by (readingCause W H t cs u v) (tableReading W H t cs u v) wholeWatts e
 
-    cost-by : (tariff : ℕ) (over : Bool) → over ≡ ltb 99999 tariff
-        → answer (cause 11 over) (costOf x tariff) ≡ costOutcome W H t cs u v tariff
-    unfolding costOutcome exactOutcome
-    cost-by tariff over p =
-        gives-before (readingCause W H t cs u v) (cause 11 over) (tableReading W H t cs u v)
-        (λ n. costOf n tariff) e
-        ∙ ap (λ o. answer (readingCause W H t cs u v orElse cause 11 o)
-        (costOf (tableReading W H t cs u v) tariff)) p
-
     pub tariff-refused : (tariff : ℕ) → 99999 < tariff → refused 11 ≡ costOutcome W H t cs u v tariff
-    tariff-refused tariff h = cost-by tariff true (sym (lt-ltb 99999 tariff h))
-
-    pub cost-given : (tariff n : ℕ) → tariff ≤ 99999 → n ≡ costOf x tariff
-        → gives n ≡ costOutcome W H t cs u v tariff
-    cost-given tariff n h p = ap gives p ∙ cost-by tariff false (sym (le-ltb 99999 tariff h))
+    unfolding costOutcome exactOutcome
+    tariff-refused tariff h =
+        gives-before (readingCause W H t cs u v) 11 (tableReading W H t cs u v) (λ n. costOf n tariff) e
+        ∙ ap (λ o. answer (readingCause W H t cs u v orElse cause 11 o) (costOf (tableReading W H t cs u v) tariff))
+        (sym (lt-ltb 99999 tariff h))
 
   module _ (m : ℕ) (e : refused m ≡ exactOutcome W H t cs u v) where
     pub watts-refused : FloatMeets (exactOutcome W H t cs u v) (refused m)

@@ -12,7 +12,7 @@ use Rattle.surface.specs.Calls.{costOf}
 pub cost-none : {n : ℤ} {m : ℕ} (t : ℕ) → n ≡ negsuc m → 0 ≡ costOf n t
 cost-none t e = sym (ap (λ y. costOf y t) e)
 
--- n×t + 500×D over D is q×t and r×t + 500×D over D, where n = D×q + r
+-- n×t is D×(q×t) + r×t, where n = D×q + r
 product : (n t : ℕ) → n * t ≡ D * (n / D * t) + n % D * t
 product n t =
     let parts : n ≡ D * (n / D) + n % D = omega arith in
@@ -29,9 +29,9 @@ cost-some {n} {z} {m} t p e = rw (e, p) (cost-split m t)
 pub product-fits : {a t : ℕ} → a ≤ D → t ≤ 99999 → Fits w64 (a * t)
 product-fits ha ht = record { fits = omega (arith, mul-le-mul ha ht) }
 
-pub left-fits : {a t k : ℕ} → a ≤ D → t ≤ 99999 → k ≤ 501 * D → Fits w64 (a * t + k)
+pub left-fits : {a t k : ℕ} → a ≤ D → t ≤ 99999 → k ≤ 1000 * D → Fits w64 (a * t + k)
 left-fits ha ht hk = record { fits = omega (arith, mul-le-mul ha ht) }
 
-pub sum-fits : {a b t k : ℕ} (d : ℕ) → a ≤ 60000 → b ≤ D → t ≤ 99999 → k ≤ 501 * D → Fits w64 (a * t + (b * t + k) / d)
+pub sum-fits : {a b t k : ℕ} (d : ℕ) → a ≤ 60000 → b ≤ D → t ≤ 99999 → k ≤ 1000 * D → Fits w64 (a * t + (b * t + k) / d)
 sum-fits {a} {b} {t} {k} d ha hb ht hk =
     record { fits = omega (arith, mul-le-mul ha ht, mul-le-mul hb ht, div-le-self (b * t + k) d) }

@@ -14,7 +14,7 @@ const HALF: i64 = DENOMINATOR / 2;
 // D again, for numbers that are not below zero, and half of 1,000 × D.
 const UNSIGNED_DENOMINATOR: usize = 158329674399744;
 
-const HALF_OF_THOUSAND: usize = 500 * UNSIGNED_DENOMINATOR;
+const HALF_OF_THOUSAND_D: usize = 500 * UNSIGNED_DENOMINATOR;
 
 // The floor of n/D, exact at every i64: the quotient toward zero, less 1 where its remainder is below zero.
 fn floor_over_d(n: i64) -> i64
@@ -60,5 +60,5 @@ pub fn cost_of(n: i64, tariff: usize) -> usize
     }
     let whole = n as usize / UNSIGNED_DENOMINATOR;
     let left = n as usize % UNSIGNED_DENOMINATOR;
-    (whole * tariff + (left * tariff + HALF_OF_THOUSAND) / UNSIGNED_DENOMINATOR) / 1000
+    (whole * tariff + (left * tariff + HALF_OF_THOUSAND_D) / UNSIGNED_DENOMINATOR) / 1000
 }

@@ -1,7 +1,6 @@
 -- Document 00's demands, and document 01's "What each call is held to", as statements about the outcomes of the calls.
 -- Each is proved under its name in proofs/Demands.antt (Untruncated as not-truncated, OneTree as one-tree-each), but
--- for Refusals in proofs/Refusals.antt, WritesAcceptable in proofs/Writers.antt and the claims of the cost in
--- proofs/Costs.antt.
+-- for Refusals in proofs/Refusals.antt and WritesAcceptable in proofs/Writers.antt.
 use mathlib.Core.Path.{_≡_}
 use mathlib.Core.Logic.{_↔_}
 use mathlib.Core.Bool.{Bool, true, false, _||_, cond}
@@ -23,7 +22,7 @@ use Rattle.surface.specs.Quadtree.{visits}
 use Rattle.surface.specs.Table.{treeOf, formed, regionsOf, levels, slots, coefficients, limit, regionCause}
 use Rattle.surface.specs.Table.{Acceptable, tableReading}
 use Rattle.surface.specs.Calls.{Answer, refused, gives, Written, Done, freshOutcome, insertOutcome, setOutcome}
-use Rattle.surface.specs.Calls.{activityOutcome, leastOutcome, exactOutcome, displayOutcome, costOf, costOutcome}
+use Rattle.surface.specs.Calls.{activityOutcome, leastOutcome, exactOutcome, displayOutcome, costOutcome}
 use Rattle.surface.specs.FloatReading.{FloatMeets}
 use Rattle.surface.specs.Note.{Note, noPart}
 use Rattle.surface.specs.TableFile.{fileOutcome}
@@ -311,30 +310,6 @@ DotTold =
     (leastOutcome W H t box
     ≡ gives (record { least = level; greatest = level; visited = visits box 5 0 0 (regionsOf (treeOf t)) }))
     × (stopLevel W H (levels t) u v ≡ level)
-
--- ---- document 02, Three: "the cost is rounded once, from the exact reading times the tariff over 1,000, halves
--- upward"
-
--- A cost is given where the exact reading is and the tariff is at most 99,999, and nowhere else; it is the reading's.
-abbrev pub CostGiven : Type 0
-CostGiven =
-    (W H : ℕ) (t : List ℕ) (cs : List ℤ) (u v tariff c : ℕ)
-    → (costOutcome W H t cs u v tariff ≡ gives c)
-    ↔ ((n : ℤ) × (exactOutcome W H t cs u v ≡ gives n) × (tariff ≤ 99999) × (costOf n tariff ≡ c))
-
--- Rounded to the nearest, halves upward: the cost is the one whole number c for which n/D watts times the tariff over
--- 1,000 is at least c − 1/2 and below c + 1/2.
-abbrev pub CostNearest : Type 0
-CostNearest =
-    (n tariff c : ℕ)
-    → (costOf (pos n) tariff ≡ c)
-    ↔ ((2 * c * (1000 * D) ≤ 2 * (n * tariff) + 1000 * D) × (2 * (n * tariff) < (2 * c + 1) * (1000 * D)))
-
--- The greatest cost there is: 32,000 watts at 99,999. (That it is given is a case, bench/specs/CostCases.antt.)
-abbrev pub CostFits : Type 0
-CostFits =
-    (W H : ℕ) (t : List ℕ) (cs : List ℤ) (u v tariff c : ℕ)
-    → costOutcome W H t cs u v tariff ≡ gives c → c ≤ 3199968
 
 -- ---- "Function (i) of level L is the sum of functions 2i to 2i+4 of level L+1 with weights 1, 4, 6, 4, 1 over 8"
 

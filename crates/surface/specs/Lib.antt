@@ -14,3 +14,4 @@ pub mod TableFile
 pub mod BenchLoading
 pub mod Saving
 pub mod Demands
+pub mod Costs

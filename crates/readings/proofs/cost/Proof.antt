@@ -5,7 +5,8 @@ use mir.ValLaws.{toZ-ofZ}
 use borrow.Author.Needs.{needs, sfits-of}
 use Rattle.surface.specs.Calls.{costOf}
 use Rattle.answers.specs.Answers.{exactAnswer}
-use Rattle.readings.proofs.ReadingLaws.{tariff-refused, cost-given, cost-refused}
+use Rattle.surface.proofs.Costs.{cost-given}
+use Rattle.readings.proofs.ReadingLaws.{tariff-refused, cost-refused}
 use Rattle.readings.proofs.cost.Statement.{statement}
 use Rattle.readings.proofs.cost.Tie as tie
 
@@ -21,11 +22,13 @@ returns-2 c =
     let k = c .before .before .before in
     let a = k .before .before .before .before .args in
     let n = k .r .given .0 .0 in
-    cost-given (a .w) (a .h) (a .tree .now) (a .numbers .now) (a .u) (a .v) n
-    (ap exactAnswer (sym (k .r .given .1)) ∙ k .before .before .exact .ensures) (a .tariff) (c .cost-of .result)
-    (c .before .if1 .left)
-    (c .cost-of .ensures
-    ∙ ap (λ m. costOf m (a .tariff)) (toZ-ofZ w64 n (sfits-of (c .before .before .known-told .given .0 .1))))
+    let exact = ap exactAnswer (sym (k .r .given .1)) ∙ k .before .before .exact .ensures in
+    let price =
+    c .cost-of .ensures
+    ∙ ap (λ m. costOf m (a .tariff)) (toZ-ofZ w64 n (sfits-of (c .before .before .known-told .given .0 .1))) in
+    sym
+    (cost-given (a .w) (a .h) (a .tree .now) (a .numbers .now) (a .u) (a .v) (a .tariff) (c .cost-of .result) .1
+    (n, sym exact, c .before .if1 .left, sym price))
 
 returns-3 : tie.Need-returns-3
 returns-3 c =
