@@ -2,7 +2,7 @@
 
 Run as: python3 tests/answers/check_answers.py; or with --write REVISION, in a clone whose crates are those of the
 revision, to write its answers. A change that is to move an answer writes them anew and says so in its note. The costs
-kept were last moved by document 02, Three; they are also held to the exact readings kept, by the evaluator's rule.
+kept are held to the evaluator too, by the exact readings kept.
 """
 from __future__ import annotations
 
@@ -30,7 +30,8 @@ MOST, STEPS, TURNED = 10, 20, 150
 WORDS = """# Answers of the library at revision %s, to which check_answers.py holds it: of each call the number that it
 # returned, what its scalars then hold, an f64 by its bits, and each slice that is not as it was lent, by its place,
 # with its length and a digest; "lent" is as it was lent. At a point: exact reading, f64, display and cost."""
-# A cost that was given: of a table at a tariff, and at a point after the exact reading, the f64 and the display.
+# A cost that was given: of a table at a tariff, and at a point after the exact reading, the f64 and the display. So many
+# must be there.
 PRICED, READ = pattern(r"(.+), cost (\d+): 0 (\d+)"), pattern(r".+ \(\d+, \d+\): 0 (-?\d+), .*, 0 (\d+)")
 COSTS = 3_000
 
@@ -80,8 +81,8 @@ def untold(inside: Inside) -> List[str]:
 
 
 def mispriced(kept: Sequence[str]) -> List[str]:
-    """Costs that are not those of the exact readings kept, or of the evaluator's at the one point where a table is asked
-    at several tariffs."""
+    """Costs that are not those of the exact readings kept, or of the evaluator's at the one point where each table is
+    asked at several tariffs."""
     watts = {name: watts_at(*t, *PRICED_AT) for name, t in accepted().items()}
     due = [(line, cost_of(watts[m[1]], int(m[2])), int(m[3])) for line in kept if (m := PRICED.fullmatch(line))]
     due += [(line, cost_of(Fraction(int(m[1]), D), TARIFF), int(m[2])) for line in kept if (m := READ.fullmatch(line))]

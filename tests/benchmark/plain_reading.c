@@ -127,8 +127,8 @@ uint8_t plain_display(size_t w, size_t h, const uint8_t *tree, size_t tree_len, 
   return cause;
 }
 
-/* n × tariff over 1,000 × D, to the nearest, halves upward. 64 bits do not hold n × tariff; with n = D × q + r they hold
-   r × tariff + 500 × D, and q × tariff is added to what that is over D. */
+/* n × tariff over 1,000 × D, to the nearest, halves upward. 64 bits do not hold n × tariff; with n = D × q + r they
+   hold r × tariff + 500 × D, and q × tariff is added to what that is over D. */
 static size_t nearest_cost(uint64_t n, size_t tariff) {
   uint64_t d = (uint64_t)D;
   return (n / d * tariff + (n % d * tariff + 500 * d) / d) / 1000;

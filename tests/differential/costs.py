@@ -5,17 +5,14 @@ Document 02, Three: 'rounded once, from the exact reading times the tariff over 
 from __future__ import annotations
 
 from random import Random
-from typing import Callable, Dict, Iterator, List, Tuple
+from typing import Callable, Dict, Iterator, List
 
-from cases import samples
-from cost_cases import CASES, GREATEST_TARIFF, TARIFFS, reading_as, steps
-from library import Library, differ, numbers, octets
+from cases import calls
+from cost_cases import CASES, TARIFFS, reading_as, steps
+from edges import lent
+from library import Library, differ
 from surface import STEPS_PER_CELL
 from tables import words
-
-
-def lent(t: samples.Table) -> Tuple:
-    return t.w, t.h, octets(t.tree), numbers(t.coefficients)
 
 
 def by_hand(lib: Library) -> Iterator[str]:
@@ -37,8 +34,8 @@ def rises(rng: Random, lib: Library, tariff: int, drawn: int) -> Iterator[str]:
 
 def drawn_rises(rng: Random, lib: Library) -> Iterator[str]:
     """Where the cost rises at a tariff that is drawn; above the greatest tariff 11, and off the sheet 6 before it."""
-    yield from rises(rng, lib, rng.randint(1, GREATEST_TARIFF), 2)
-    t, tariff = reading_as(rng.randint(-10**18, 10**18)), GREATEST_TARIFF + rng.choice((1, 2**32, 2**64 - 10**5))
+    yield from rises(rng, lib, rng.randint(1, calls.GREATEST_TARIFF), 2)
+    t, tariff = reading_as(rng.randint(-10**18, 10**18)), calls.GREATEST_TARIFF + rng.choice((1, 2**32, 2**64 - 10**5))
     off = STEPS_PER_CELL + rng.choice((1, 2**32, 2**63))
     yield differ(words("cost", t, (1, 1, tariff)), lib.cost(*lent(t), 1, 1, tariff), ("refused", 11))
     yield differ(words("cost", t, (1, off, tariff)), lib.cost(*lent(t), 1, off, tariff), ("refused", 6))

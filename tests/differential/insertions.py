@@ -1,4 +1,4 @@
-"""Insertions, single and in lists, held to the unrelated evaluator; and no list moves an exact reading."""
+"""Insertions, single and in lists, held to the unrelated evaluator; and no list moves an exact reading or a cost."""
 from __future__ import annotations
 
 from random import Random
@@ -8,6 +8,9 @@ import cases
 from cases import calls, samples
 from library import Library, differ, numbers, octets
 from saving import drawn
+
+# At so many points the cost is asked too, at this tariff.
+PRICED, TARIFF = 4, 99_999
 
 
 def made(lib: Library, t: samples.Table, one: samples.Insertion) -> Tuple[str, samples.Table]:
@@ -24,12 +27,14 @@ def made(lib: Library, t: samples.Table, one: samples.Insertion) -> Tuple[str, s
 
 
 def readings(lib: Library, t: samples.Table, points: Sequence[samples.Point]) -> Tuple[str, List[Tuple]]:
-    """Reads one table at many points: what is written that should not be, and the answers."""
+    """Reads one table at many points, and the cost at the first: what is written that should not be, and the answers,
+    each after what was asked."""
     tree, values, answers = octets(t.tree), numbers(t.coefficients), []
-    for u, v in points:
-        got = lib.exact(t.w, t.h, tree, values, u, v)
-        answers.append(got.said())
-        fault = differ(f"exact {t.w} {t.h} {t.tree} {(u, v)}", got, answers[-1])
+    asked = [("exact", lib.exact, point) for point in points]
+    for name, call, at in asked + [("cost", lib.cost, (*point, TARIFF)) for point in points[:PRICED]]:
+        got = call(t.w, t.h, tree, values, *at)
+        answers.append(((name, *at), got.said()))
+        fault = differ(f"{name} {t.w} {t.h} {t.tree} {at}", got, got.said())
         if fault:
             return fault, answers
     return "", answers
@@ -48,9 +53,9 @@ def list_made(
     if fault:
         return
     fault, after = readings(lib, now, points)
-    for point, was, reads in zip(points, before, after):
+    for (asked, was), (_, reads) in zip(before, after):
         if was != reads:
-            fault = f"insertions {t.w} {t.h} {t.tree} to {now.tree}: {point} read {was}, then {reads}"
+            fault = f"insertions {t.w} {t.h} {t.tree} to {now.tree}: {asked} gave {was}, then {reads}"
     if fault:
         yield fault
 

@@ -11,6 +11,7 @@ from random import Random
 from typing import Callable, Dict, List, NamedTuple, Tuple
 
 import calls
+from calls import GREATEST_TARIFF
 from level_cases import of_cells
 from properties import Check
 from samples import Point, Table, columns_table, fresh_table
@@ -18,7 +19,7 @@ from surface import D
 
 # One step of 1/128 cell on columns -1, 0, 1, 2, and one unit of every coefficient of level 3, each over D.
 STEP, UNIT = 1_236_950_581_248, 603_979_776
-GREATEST_COST, GREATEST_TARIFF = 3_199_968, 99_999
+GREATEST_COST = 3_199_968
 TARIFFS = (1, 2, 31, 499, 500, 1_000, 2_950, 50_000, GREATEST_TARIFF)
 
 
@@ -68,7 +69,7 @@ CASES: List[Case] = [
     Case("zero", **sloping(0), shown=0, tariff=99_999, former=0, due=0),
     Case("the greatest below zero", **at_numerator(-1), shown=0, tariff=99_999, former=0, due=0),
     Case("1/64 watt below zero", columns_table((1, 0, -1, -2)), (2, 5), -2 * STEP, 0, 99_999, 0, 0),
-    Case("2 watts below zero", **all_of(-2), shown=-2, tariff=99_999, former=0, due=0),
+    Case("9 watts below zero", **all_of(-9), shown=-9, tariff=99_999, former=0, due=0),
     Case("1/4 watt, one more", **sloping(32), shown=0, tariff=2_000, former=0, due=1),
     Case("below 1/4 watt", **at_numerator(32 * STEP - 1), shown=0, tariff=2_000, former=0, due=0),
     Case("3/4 watt, one less", **sloping(96), shown=1, tariff=600, former=1, due=0),

@@ -120,8 +120,8 @@ static void beside_a_half(void) {
   HELD(kiln_watts(1, 1, level_1, 13, many, ONE, 1, 1, &watts) == KILN_DONE && watts == 500.5 && round(watts) == 501);
 }
 
-/* "Fresh table of 1 watt: tariff 1,499 costs 1, tariff 1,500 costs 2."; "An exact reading of 31/64 watt at tariff 99,999
-   now costs 48", and shows as 0; 1/64 watt below zero costs 0; the greatest cost. */
+/* "Fresh table of 1 watt: tariff 1,499 costs 1, tariff 1,500 costs 2."; "An exact reading of 31/64 watt at tariff
+   99,999 now costs 48", and shows as 0; 1/64 watt below zero costs 0; the greatest cost. */
 static void costs(void) {
   HELD(kiln_fresh(2, 3, 32001, tree, 1, more, kiln_places(2, 3), &length) == KILN_NUMBER_LIMIT);
   HELD(kiln_fresh(2, 3, 1, tree, 1, more, kiln_places(2, 3), &length) == KILN_DONE);
@@ -136,7 +136,8 @@ static void costs(void) {
   HELD(kiln_exact(1, 1, flat, 1, many, ONE, 2, 5, &numerator) == KILN_DONE && numerator == -KILN_DENOMINATOR / 64);
   HELD(kiln_cost(1, 1, flat, 1, many, ONE, 2, 5, 99999, &cost) == KILN_DONE && cost == 0);
   HELD(kiln_fresh(8, 8, 32000, tree, 1, many, KILN_PLACES, &length) == KILN_DONE);
-  HELD(kiln_cost(8, 8, tree, 1, many, KILN_PLACES, 1024, 1024, 99999, &cost) == KILN_DONE && cost == KILN_GREATEST_COST);
+  HELD(kiln_cost(8, 8, tree, 1, many, KILN_PLACES, 1024, 1024, 99999, &cost) == KILN_DONE);
+  HELD(cost == KILN_GREATEST_COST);
 }
 
 /* "8 by 8, tree 3: 4,489 active.", "Tree 4 0 0 0 0: 2. Tree 1 on 1 by 1: 2, on 8 by 8 accepted."; empty slices. */
