@@ -143,7 +143,7 @@ def unmeasured() -> List[str]:
 
 
 def unpriced() -> List[str]:
-    """A line where no cost is measured of a reading above zero: the others cost 0 at once."""
+    """A line where no cost is measured of a reading above zero: those below cost 0 at once."""
     above = (name for name, t in tables() if "cost" in calls_on(name) and watts_at(*t, *point_of(t, EXACT)) > 0)
     return [] if any(above) else ["no cost is measured of a reading above zero"]
 

@@ -84,7 +84,8 @@ def told() -> Iterator[Tuple[str, str]]:
     yield why, f"| 0 W, or −3 W | {none.shown} W, −{-minus.shown} W | any | {none.cost + minus.cost} |"
     yield why, f"| {at.exact / D:,.1f} W | {at.shown:,} W | 2,950 | {at.cost:,}: {at.cost / 100} cents |"
     yield why, f"| {at.exact / D:,.1f} W | {at.shown:,} W | 30, that is cents | {at.cost_in_cents}: 1.20 cents |"
-    yield from (("docs/WHY.md", sentence) for sentence in cost_changed(at))
+    yield from ((why, sentence) for sentence in cost_changed(at))
+    yield "README.md", f"that moves a cost by at most {greatest_change(TARIFF) / 100} cents an hour"
     yield why, f"at U 900 it is {at.shown:,} W at V 200 and {there.shown:,} W one step further"
     for same in (at, figures(refined, 900, 200)):
         yield why, f"the unrefined sample table and its refined copy both give {same.exact}/{D}"

@@ -9,8 +9,8 @@ from cases import calls, samples
 from library import Library, differ, numbers, octets
 from saving import drawn
 
-# At so many points the cost is asked too, at this tariff.
-PRICED, TARIFF = 4, 99_999
+# At as many points the cost is asked too, at each its tariff; the last of them is refused.
+TARIFFS = 2_950, 99_999, 100_000
 
 
 def made(lib: Library, t: samples.Table, one: samples.Insertion) -> Tuple[str, samples.Table]:
@@ -31,7 +31,7 @@ def readings(lib: Library, t: samples.Table, points: Sequence[samples.Point]) ->
     each after what was asked."""
     tree, values, answers = octets(t.tree), numbers(t.coefficients), []
     asked = [("exact", lib.exact, point) for point in points]
-    for name, call, at in asked + [("cost", lib.cost, (*point, TARIFF)) for point in points[:PRICED]]:
+    for name, call, at in asked + [("cost", lib.cost, (*point, tariff)) for point, tariff in zip(points, TARIFFS)]:
         got = call(t.w, t.h, tree, values, *at)
         answers.append(((name, *at), got.said()))
         fault = differ(f"{name} {t.w} {t.h} {t.tree} {at}", got, got.said())

@@ -37,7 +37,7 @@ class Case(NamedTuple):
 
 
 # A 1 by 1 table all of level 3, whose numerator over D at (1, 1) is this one, at most 32,000 x D in size: equal
-# coefficients, but for that of function (0, 0), which is 1 over D there, as t^3 / 6 is 1 / 24,576 at t = 1/16.
+# coefficients, but for that of function (0, 0), of which a unit adds 1 over D there: t^3 / 6 is 1 / 24,576 at t = 1/16.
 def reading_as(numerator: int) -> Table:
     units = numerator // UNIT if numerator < 0 else -(-numerator // UNIT)
     coefficients = [0] * 90 + [units] * 121
@@ -114,7 +114,7 @@ def greatest_change(tariff: int) -> int:
     return ceil(Fraction(tariff, 2_000))
 
 
-# That is never passed, by readings anywhere and beside halves, and at the tariffs named it is reached.
+# That is never passed, by readings anywhere and beside halves, and at 2,950 and the greatest tariff it is reached.
 def changes(check: Check) -> None:
     rng = Random(4)
     for tariff in (*TARIFFS, *(rng.randint(1, GREATEST_TARIFF) for _ in range(40))):
@@ -126,7 +126,7 @@ def changes(check: Check) -> None:
         check(tariff not in (2_950, GREATEST_TARIFF) or max(moved) == greatest_change(tariff), "reached at %d" % tariff)
 
 
-# The cost rises by one at one numerator, and there alone.
+# One below the least numerator that costs more than an amount the cost is that amount, and there one more.
 def nearest(check: Check) -> None:
     rng = Random(3)
     for tariff in (*TARIFFS, *(rng.randint(1, GREATEST_TARIFF) for _ in range(40))):
@@ -158,7 +158,7 @@ MISREADINGS: Dict[str, Callable[[int, int], int]] = {
     "rounded down": lambda n, t: max(floor(Fraction(n * t, 1_000 * D)), 0),
     "rounded up": lambda n, t: max(ceil(Fraction(n * t, 1_000 * D)), 0),
     "as much below zero as above": lambda n, t: upward(Fraction(abs(n) * t, 1_000 * D)),
-    "below zero as one less": lambda n, t: abs(upward(Fraction(n * t, 1_000 * D))),
+    "above -1 watt by its size": lambda n, t: upward(Fraction(abs(n) * t, 1_000 * D)) if n > -D else 0,
     "the product cut to 64 bits": lambda n, t: max(upward(Fraction(n * t % 2**64, 1_000 * D)), 0),
     "the product cut to an i64": lambda n, t: max(upward(Fraction(in_i64(n * t), 1_000 * D)), 0),
     "what is left over, times the tariff, cut to an i64": lambda n, t: max(

@@ -244,7 +244,7 @@ static void one_is_set(void) {
   HELD(kiln_table_judge(&table) == KILN_TREE);
 }
 
-/* "Fresh table of 1 watt: tariff 1,499 costs 1, tariff 1,500 costs 2." */
+/* "Fresh table of 1 watt: tariff 1,499 costs 1, tariff 1,500 costs 2."; the greatest cost. */
 static void costs(void) {
   struct kiln_table table;
   size_t cost = 77;

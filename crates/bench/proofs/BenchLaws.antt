@@ -1,5 +1,5 @@
--- Laws by which the bench sheet's cases are proved: outcomes from their causes, and coefficients by a test that
--- computes.
+-- Laws by which the bench sheet's cases and those of the cost are proved: outcomes from their causes, coefficients by a
+-- test that computes, readings by their patch.
 use mathlib.Core.Path.{_≡_, refl, sym, _∙_, subst}
 use mathlib.Core.Bool.{Bool, true, _&&_}
 use mathlib.Core.List.{List}

@@ -5,6 +5,7 @@ use native.Mathlib.Nat.{le-refl, mul-le-mul, add-mul, mul-assoc}
 use native.Mathlib.Omega.{arith}
 use lib.Dec.{lit≤, lit<}
 use Rattle.finite.specs.Range.{sum, every, least, greatest, tableFrom, rowsFrom}
+use Rattle.finite.proofs.Division.{split-times}
 use Rattle.surface.specs.Sheet.{eighths}
 use Rattle.surface.specs.Quadtree.{parse, wellFormed, levelAt}
 use Rattle.surface.specs.Support.{leastUnder}
@@ -51,18 +52,10 @@ cost-cases =
       greatest = holds 0 _ refl (lit≤ tt) (lit≤ tt) (lit≤ tt) (lit≤ tt) refl refl refl (lit≤ tt) refl;
     }
 
--- 2×n + D is 2×D×w + r, with w the watts shown and r below 2×D; so it is times the tariff
-shown-times : (n t : ℕ)
-    → 2 * (n * t) + D * t ≡ 2 * D * ((2 * n + D) / (2 * D) * t) + (2 * n + D) % (2 * D) * t
+-- 2×n + D times the tariff, by the watts shown and what is left over of it
+shown-times : (n t : ℕ) → 2 * (n * t) + D * t ≡ 2 * D * ((2 * n + D) / (2 * D) * t) + (2 * n + D) % (2 * D) * t
 shown-times n t =
-    let w = (2 * n + D) / (2 * D) in
-    let r = (2 * n + D) % (2 * D) in
-    let parts : 2 * n + D ≡ 2 * D * w + r = omega arith in
-    ap (λ m. m + D * t) (sym (mul-assoc 2 n t))
-    ∙ sym (add-mul (2 * n) D t)
-    ∙ ap (λ m. m * t) parts
-    ∙ add-mul (2 * D * w) r t
-    ∙ ap (λ m. m + r * t) (mul-assoc (2 * D) w t)
+    ap (λ m. m + D * t) (sym (mul-assoc 2 n t)) ∙ sym (add-mul (2 * n) D t) ∙ split-times (2 * D) (2 * n + D) t
 
 pub cost-moved : CostMoved
 unfolding wholeWatts

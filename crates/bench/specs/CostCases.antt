@@ -68,7 +68,7 @@ ofFresh watts tariff formerly cost =
       cost = cost;
     }
 
--- All of level 3, where each coefficient is k, but for function (0, 0), which has m more: it is 1 over D at (1, 1).
+-- All of level 3, where each coefficient is k, but for function (0, 0), which has m more: each adds 1/D watt at (1, 1).
 abbrev pub ofFinest : (k m : ℕ) (tariff formerly cost : ℕ) → CostCase
 ofFinest k m tariff formerly cost =
     record {

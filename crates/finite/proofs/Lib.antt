@@ -1,4 +1,5 @@
 pub mod Bits
+pub mod Division
 pub mod Extremum
 pub mod Four
 pub mod Int

@@ -1,25 +1,20 @@
--- The cost of an exact reading from its whole watts and what is left over.
-use mathlib.Core.Path.{_≡_, sym, ap, _∙_}
+-- The cost of an exact reading from its quotient over D and what is left over.
+use mathlib.Core.Path.{_≡_, sym, ap}
 use Prim.Native.Nat.{ℕ, _+_, _*_, _/_, _%_, _≤_}
-use native.Mathlib.Nat.{mul-le-mul, add-mul, mul-assoc, div-le-self}
+use native.Mathlib.Nat.{mul-le-mul, div-le-self}
 use native.Mathlib.Omega.{arith}
 use lib.IntN.{ℤ, pos, negsuc, natAbs}
 use mir.Syntax.{w64}
 use mir.Val.{Fits}
+use Rattle.finite.proofs.Division.{split-times}
 use Rattle.surface.specs.Truncation.{D}
 use Rattle.surface.specs.Calls.{costOf}
 
 pub cost-none : {n : ℤ} {m : ℕ} (t : ℕ) → n ≡ negsuc m → 0 ≡ costOf n t
 cost-none t e = sym (ap (λ y. costOf y t) e)
 
--- n×t is D×(q×t) + r×t, where n = D×q + r
-product : (n t : ℕ) → n * t ≡ D * (n / D * t) + n % D * t
-product n t =
-    let parts : n ≡ D * (n / D) + n % D = omega arith in
-    ap (λ m. m * t) parts ∙ add-mul (D * (n / D)) (n % D) t ∙ ap (λ m. m + n % D * t) (mul-assoc D (n / D) t)
-
 cost-split : (n t : ℕ) → (n / D * t + (n % D * t + 500 * D) / D) / 1000 ≡ costOf (pos n) t
-cost-split n t = omega (arith, product n t)
+cost-split n t = omega (arith, split-times D n t)
 
 pub cost-some : {n z : ℤ} {m : ℕ} (t : ℕ) → n ≡ pos m → z ≡ pos m
     → (natAbs z / D * t + (natAbs z % D * t + 500 * D) / D) / 1000 ≡ costOf n t

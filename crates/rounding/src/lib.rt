@@ -50,7 +50,7 @@ pub fn whole_watts(n: i64) -> i64
 }
 
 // Cost per hour in hundredths of a cent, of n/D watts: n × tariff over 1,000 × D to the nearest whole number, halves
-// upward. 64 bits do not hold that product, so n goes by its whole watts and by what is left over, which is below D.
+// upward. 64 bits do not hold that product, so n goes by its quotient over D and by what is left over.
 pub fn cost_of(n: i64, tariff: usize) -> usize
     requires { ⌜ tariff ≤ 99999 ⌝ }
     ensures { λ r. ⌜ r ≡ costOf n tariff ⌝ }
@@ -58,7 +58,8 @@ pub fn cost_of(n: i64, tariff: usize) -> usize
     if n < 0 {
         return 0;
     }
-    let whole = n as usize / UNSIGNED_DENOMINATOR;
-    let left = n as usize % UNSIGNED_DENOMINATOR;
-    (whole * tariff + (left * tariff + HALF_OF_THOUSAND_D) / UNSIGNED_DENOMINATOR) / 1000
+    let numerator = n as usize;
+    let quotient = numerator / UNSIGNED_DENOMINATOR;
+    let left = numerator % UNSIGNED_DENOMINATOR;
+    (quotient * tariff + (left * tariff + HALF_OF_THOUSAND_D) / UNSIGNED_DENOMINATOR) / 1000
 }

@@ -49,9 +49,9 @@ cost-fits W H t cs u v tariff c e =
 
 pub cost-follows : CostFollows
 unfolding costOutcome exactOutcome
-cost-follows W H t₁ t₂ c₁ c₂ u v e tariff =
-    go (readingCause W H t₁ c₁ u v) (readingCause W H t₂ c₂ u v) (tableReading W H t₁ c₁ u v)
-    (tableReading W H t₂ c₂ u v) e
+cost-follows W₁ H₁ W₂ H₂ t₁ t₂ c₁ c₂ u₁ v₁ u₂ v₂ e tariff =
+    go (readingCause W₁ H₁ t₁ c₁ u₁ v₁) (readingCause W₂ H₂ t₂ c₂ u₂ v₂) (tableReading W₁ H₁ t₁ c₁ u₁ v₁)
+    (tableReading W₂ H₂ t₂ c₂ u₂ v₂) e
   where
     go : (c d : ℕ) (x y : ℤ) → answer c x ≡ answer d y
         → answer (c orElse cause 11 (ltb 99999 tariff)) (costOf x tariff)
@@ -61,5 +61,5 @@ cost-follows W H t₁ t₂ c₁ c₂ u v e tariff =
 
 pub refinement-moves-no-cost : RefinementMovesNoCost
 refinement-moves-no-cost W H c ss acc u v tariff =
-    cost-follows W H (afterAll W H c ss .tree) (c .tree) (afterAll W H c ss .numbers) (c .numbers) u v
+    cost-follows W H W H (afterAll W H c ss .tree) (c .tree) (afterAll W H c ss .numbers) (c .numbers) u v u v
     (refinement-moves-no-reading W H c ss acc .1 u v .0) tariff

@@ -19,8 +19,8 @@ CostGiven =
     → (costOutcome W H t cs u v tariff ≡ gives c)
     ↔ ((n : ℤ) × (exactOutcome W H t cs u v ≡ gives n) × (tariff ≤ 99999) × (costOf n tariff ≡ c))
 
--- Rounded to the nearest, halves upward: the cost is the one whole number c for which n/D watts times the tariff over
--- 1,000 is at least c − 1/2 and below c + 1/2.
+-- Rounded to the nearest, halves upward, of a reading not below zero: the cost is the one whole number c for which n/D
+-- watts times the tariff over 1,000 is at least c − 1/2 and below c + 1/2.
 abbrev pub CostNearest : Type 0
 CostNearest =
     (n tariff c : ℕ)
@@ -37,11 +37,12 @@ CostFits =
     (W H : ℕ) (t : List ℕ) (cs : List ℤ) (u v tariff c : ℕ)
     → costOutcome W H t cs u v tariff ≡ gives c → c ≤ 3199968
 
--- Two tables of one sheet that read the same at a point cost the same there, at every tariff.
+-- The cost comes from the exact outcome and the tariff alone: where two exact calls answer the same, so do the costs.
 abbrev pub CostFollows : Type 0
 CostFollows =
-    (W H : ℕ) (t₁ t₂ : List ℕ) (c₁ c₂ : List ℤ) (u v : ℕ) → exactOutcome W H t₁ c₁ u v ≡ exactOutcome W H t₂ c₂ u v
-    → (tariff : ℕ) → costOutcome W H t₁ c₁ u v tariff ≡ costOutcome W H t₂ c₂ u v tariff
+    (W₁ H₁ W₂ H₂ : ℕ) (t₁ t₂ : List ℕ) (c₁ c₂ : List ℤ) (u₁ v₁ u₂ v₂ : ℕ)
+    → exactOutcome W₁ H₁ t₁ c₁ u₁ v₁ ≡ exactOutcome W₂ H₂ t₂ c₂ u₂ v₂
+    → (tariff : ℕ) → costOutcome W₁ H₁ t₁ c₁ u₁ v₁ tariff ≡ costOutcome W₂ H₂ t₂ c₂ u₂ v₂ tariff
 
 -- Document 00: "I must be able to say that refining moved no figure". Nor does it move a cost: the list is demand 3's.
 abbrev pub RefinementMovesNoCost : Type 0

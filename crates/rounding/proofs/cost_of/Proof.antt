@@ -21,11 +21,8 @@ returns : tie.Need-returns
 returns c =
     cost-none (c .before .args .tariff) (below (c .before .args .n) (c .before .fits .n) (c .if1 .taken))
 
-cast-whole : tie.Need-cast-whole
-cast-whole c = cast-up (kept c) (c .before .fits .n .sfits)
-
-cast-left : tie.Need-cast-left
-cast-left c = cast-up (kept c) (c .before .fits .n .sfits)
+cast-numerator : tie.Need-cast-numerator
+cast-numerator c = cast-up (kept c) (c .before .fits .n .sfits)
 
 mul-result : tie.Need-mul-result
 mul-result c = product-fits (omega (arith, small c)) (c .before .pre)
@@ -46,4 +43,4 @@ returns-2 c =
 pub cost-of-spec : {M : Type 1} → statement M
 cost-of-spec =
     tie.close
-    (tie.spec returns cast-whole cast-left mul-result mul-result-2 add-result add-result-2 returns-2)
+    (tie.spec returns cast-numerator mul-result mul-result-2 add-result add-result-2 returns-2)
