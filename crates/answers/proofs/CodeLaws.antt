@@ -9,13 +9,14 @@ use mir.Val.{SFits, toZ, ofZ}
 use mir.ValLaws.{toZ-ofZ}
 use Rattle.surface.specs.Calls.{Answer, refused, gives, answer, LevelsUnder}
 use Rattle.surface.specs.FloatReading.{FloatMeets}
+use Rattle.surface.specs.Slopes.{ExactSlopes, FloatSlopes, SlopesMeet}
 use Rattle.surface.specs.Note.{NotePart}
 use Rattle.surface.specs.TableFile.{FileResult}
 use Rattle.answers.specs.Answers.{lengthAnswer, noteTold}
 use Rattle.answers.specs.declared.Note.{Note}
 use Rattle.answers.specs.declared.Length.{Length}
 use Rattle.answers.specs.declared.Length.the-variants.{Bytes, Refused}
-use Rattle.answers.specs.Codes.{codeOf, NumberTold, LeastTold, WattsAfter, FileTold, NoteAfter}
+use Rattle.answers.specs.Codes.{codeOf, NumberTold, LeastTold, WattsAfter, SlopesAfter, FileTold, NoteAfter}
 
 pub told-levels : {o : Answer LevelsUnder} (l g v a b c : ℕ)
     → gives (record { least = l; greatest = g; visited = v }) ≡ o → LeastTold o 0 a l b g c v
@@ -69,6 +70,17 @@ pub watts-refused : (o : Answer ℤ) (n : ℕ) (old : Float) → FloatMeets o (r
     → (n ≡ codeOf o) × WattsAfter o old old
 watts-refused (refused m) n old e = (e, refl)
 watts-refused (gives m) n old e = absurd e
+
+-- and so of watts and slopes
+pub slopes-given : (o : Answer ExactSlopes) (x old : FloatSlopes) → SlopesMeet o (gives x)
+    → (0 ≡ codeOf o) × SlopesAfter o old x
+slopes-given (refused n) x old m = absurd m
+slopes-given (gives n) x old m = (refl, m)
+
+pub slopes-refused : (o : Answer ExactSlopes) (n : ℕ) (old : FloatSlopes) → SlopesMeet o (refused n)
+    → (n ≡ codeOf o) × SlopesAfter o old old
+slopes-refused (refused m) n old e = (e, refl)
+slopes-refused (gives m) n old e = absurd e
 
 pub file-given : {o : Answer FileResult} (n W H a b c : ℕ) → gives (record { treeLength = n; W = W; H = H }) ≡ o
     → FileTold o 0 a n b W c H

@@ -3,6 +3,7 @@ use Prim.Native.Nat.{ℕ}
 use lib.IntN.{ℤ}
 use lib.Ieee.{Float}
 use Rattle.surface.specs.Calls.{Answer, refused, gives, LevelsUnder}
+use Rattle.surface.specs.Slopes.{FloatSlopes}
 use Rattle.surface.specs.TableFile.{FileResult}
 use Rattle.surface.specs.Note.{NotePart}
 use Rattle.answers.specs.declared.Outcome as OutcomeCases
@@ -15,6 +16,9 @@ use Rattle.answers.specs.declared.Exact as ExactCases
 use Rattle.answers.specs.declared.Exact.{Exact}
 use Rattle.answers.specs.declared.Reading as ReadingCases
 use Rattle.answers.specs.declared.Reading.{Reading}
+use Rattle.answers.specs.declared.WattsAndSlopes.{WattsAndSlopes}
+use Rattle.answers.specs.declared.Slopes as SlopesCases
+use Rattle.answers.specs.declared.Slopes.{Slopes}
 use Rattle.answers.specs.declared.Display as DisplayCases
 use Rattle.answers.specs.declared.Display.{Display}
 use Rattle.answers.specs.declared.Cost as CostCases
@@ -42,6 +46,13 @@ exactAnswer (ExactCases.the-variants.Refused n) = refused n
 abbrev pub wattsAnswer : Reading → Answer Float
 wattsAnswer (ReadingCases.the-variants.Watts x) = gives x
 wattsAnswer (ReadingCases.the-variants.Refused n) = refused n
+
+abbrev pub slopesTold : WattsAndSlopes → FloatSlopes
+slopesTold x = record { watts = x .watts; alongU = x .«along_u»; alongV = x .«along_v» }
+
+abbrev pub slopesAnswer : Slopes → Answer FloatSlopes
+slopesAnswer (SlopesCases.the-variants.Given x) = gives (slopesTold x)
+slopesAnswer (SlopesCases.the-variants.Refused n) = refused n
 
 abbrev pub displayAnswer : Display → Answer ℤ
 displayAnswer (DisplayCases.the-variants.Watts n) = gives n

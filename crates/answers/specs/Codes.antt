@@ -8,6 +8,7 @@ use lib.Ieee.{Float}
 use Rattle.surface.specs.Truncation.{D}
 use Rattle.surface.specs.Calls.{Answer, refused, gives, LevelsUnder, Written, Done}
 use Rattle.surface.specs.FloatReading.{Near}
+use Rattle.surface.specs.Slopes.{ExactSlopes, FloatSlopes, NearSlopes}
 use Rattle.surface.specs.Note.{NotePart}
 use Rattle.surface.specs.TableFile.{FileResult}
 
@@ -51,6 +52,11 @@ LeastTold o code least₀ least greatest₀ greatest visited₀ visited =
 abbrev pub WattsAfter : Answer ℤ → Float → Float → Type 0
 WattsAfter (refused n) old new = new ≡ old
 WattsAfter (gives n) old new = Near (2 ^ 30) D n new
+
+-- the watts and slopes that stand at three parameters afterwards: what stood there, or a record within its bounds
+abbrev pub SlopesAfter : Answer ExactSlopes → FloatSlopes → FloatSlopes → Type 0
+SlopesAfter (refused n) old new = new ≡ old
+SlopesAfter (gives e) old new = NearSlopes e new
 
 -- what a call that writes one slice leaves: its code and the slice
 abbrev pub SliceWritten : {A B : Type 0} → Done A B → ℕ → List B → Type 0

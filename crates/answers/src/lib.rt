@@ -34,6 +34,19 @@ pub enum Reading {
     Refused(u8),
 }
 
+// Document 02: "One record holds the watts and both slopes as f64", slopes in watts per eighth of a cell.
+pub struct WattsAndSlopes {
+    pub watts: f64,
+    pub along_u: f64,
+    pub along_v: f64,
+}
+
+// That record, or a refusal number.
+pub enum Slopes {
+    Given(WattsAndSlopes),
+    Refused(u8),
+}
+
 // The display: whole watts.
 pub enum Display {
     Watts(i64),

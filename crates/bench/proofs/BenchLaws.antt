@@ -7,7 +7,6 @@ use Prim.Native.Nat.{ℕ, suc, _^_, _≤_, _<_, min}
 use lib.IntN.{ℤ, pos}
 use lib.ListN.{length, getD, getD-replicate}
 use lib.Dec.{T, lit<}
-use lib.Ieee.{Float}
 use lib.Signed.{leZ, leZ-yes}
 use borrow.Author.Tests.{le-leb, le-ltb, eq-eqb}
 use Rattle.finite.specs.Range.{every2}
@@ -21,12 +20,13 @@ use Rattle.surface.specs.Table.{tableReading}
 use Rattle.surface.specs.Calls.{Answer, refused, gives, insertCause, insertOutcome, setCause, setOutcome}
 use Rattle.surface.specs.Calls.{activityBytes, activityCause, activityOutcome, leastOutcome, readingCause}
 use Rattle.surface.specs.Calls.{exactOutcome, wholeWatts, displayOutcome, costOf, costOutcome}
-use Rattle.surface.specs.FloatReading.{Near, FloatMeets}
+use Rattle.surface.specs.FloatReading.{Near, Meets}
+use Rattle.surface.specs.Slopes.{NearSlopes, tableSlopes, slopesOutcome}
 use Rattle.bench.specs.Bench.{zeros, box, Columns, ActivityIs, TreeGives, LastPoint}
 use Rattle.surface.proofs.TableLaws.{everywhere-true}
 use Rattle.surface.proofs.Demands.{any-level, reading-given}
 use Rattle.surface.proofs.Costs.{cost-given}
-use Rattle.surface.proofs.Refusals.{float-refused}
+use Rattle.surface.proofs.Refusals.{meets-refused}
 
 -- ---- coefficients
 
@@ -86,19 +86,19 @@ activity-is W H t L bytes c h n b out e =
 
 -- ---- refusals
 
--- where the exact reading is given, so is the f64, near it
-near-given : (o : Answer ℤ) (n : ℤ) (given : Answer Float) → o ≡ gives n → FloatMeets o given
-    → (x : Float) × (given ≡ gives x) × Near (2 ^ 30) D n x
-near-given o n given e m = go given (subst (λ k. FloatMeets k given) e m)
+-- where an exact outcome is given, so is what meets it, near it
+near-given : {A B : Type 0} (near : A → B → Type 0) (o : Answer A) (a : A) (given : Answer B) → o ≡ gives a
+    → Meets near o given → (x : B) × (given ≡ gives x) × near a x
+near-given {A} {B} near o a given e m = go given (subst (λ k. Meets near k given) e m)
   where
-    go : (g : Answer Float) → FloatMeets (gives n) g → (x : Float) × (g ≡ gives x) × Near (2 ^ 30) D n x
+    go : (g : Answer B) → Meets near (gives a) g → (x : B) × (g ≡ gives x) × near a x
     go (refused k) h = absurd h
     go (gives x) h = (x, refl, h)
 
 -- cause 1 or 2 comes before all that a call is lent beside the tree
 pub tree-gives : (W H : ℕ) (t : List ℕ) (n : ℕ) → regionCause W H t ≡ suc n → TreeGives W H t (suc n)
 unfolding leastOutcome activityOutcome activityCause insertOutcome insertCause setOutcome setCause exactOutcome
-    displayOutcome costOutcome readingCause
+    displayOutcome costOutcome readingCause slopesOutcome
 tree-gives W H t n e =
     record {
       least = λ b. rw e;
@@ -106,7 +106,10 @@ tree-gives W H t n e =
       insert = λ cs b level treeOut numbersOut. rw (table cs);
       set = λ cs L i j number. rw (table cs);
       exact = exact;
-      watts = λ cs u v given m. float-refused (exactOutcome W H t cs u v) given m (suc n) .1 (exact cs u v);
+      watts = λ cs u v given m.
+          meets-refused (Near (2 ^ 30) D) (exactOutcome W H t cs u v) given m (suc n) .1 (exact cs u v);
+      slopes = λ cs u v given m.
+          meets-refused NearSlopes (slopesOutcome W H t cs u v) given m (suc n) .1 (rw (table cs));
       display = λ cs u v. rw (table cs);
       cost = λ cs u v tariff. rw (table cs);
     }
@@ -118,16 +121,19 @@ tree-gives W H t n e =
     exact cs u v = rw (table cs)
 
 pub last-point : (t : List ℕ) (cs : List ℤ) → Acceptable 1 1 t cs → LastPoint t cs
-unfolding exactOutcome displayOutcome costOutcome readingCause
+unfolding exactOutcome displayOutcome costOutcome readingCause slopesOutcome
 last-point t cs acc =
     record {
       exact = exact;
       watts = λ v given h m.
-          near-given (exactOutcome 1 1 t cs 128 v) (tableReading 1 1 t cs 128 v) given (exact v h) m;
+          near-given (Near (2 ^ 30) D) (exactOutcome 1 1 t cs 128 v) (tableReading 1 1 t cs 128 v) given (exact v h) m;
+      slopes = λ v given h m.
+          near-given NearSlopes (slopesOutcome 1 1 t cs 128 v) (tableSlopes 1 1 t cs 128 v) given (rw (acc, on v h)) m;
       display = λ v h. rw (acc, on v h);
       cost = λ v tariff h k. rw (acc, on v h, le-ltb 99999 tariff k);
       exactPast = past;
-      wattsPast = λ v given m. float-refused (exactOutcome 1 1 t cs 129 v) given m 6 .1 (past v);
+      wattsPast = λ v given m. meets-refused (Near (2 ^ 30) D) (exactOutcome 1 1 t cs 129 v) given m 6 .1 (past v);
+      slopesPast = λ v given m. meets-refused NearSlopes (slopesOutcome 1 1 t cs 129 v) given m 6 .1 (rw acc);
       displayPast = λ v. rw acc;
       costPast = λ v tariff. rw acc;
     }

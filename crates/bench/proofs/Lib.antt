@@ -2,5 +2,6 @@ pub mod Computed
 pub mod BenchLaws
 pub mod Bench
 pub mod CostCases
+pub mod SlopeCases
 pub mod Unrefined
 pub mod LinkedBench

@@ -15,6 +15,7 @@ use Rattle.surface.specs.Table.{levels, places, coefficients, regionCause, Acce
 use Rattle.surface.specs.Calls.{Answer, refused, gives, insertOutcome, setOutcome, index, activityOutcome}
 use Rattle.surface.specs.Calls.{leastOutcome, exactOutcome, displayOutcome, costOutcome, wholeWatts, costOf}
 use Rattle.surface.specs.FloatReading.{Near, FloatMeets}
+use Rattle.surface.specs.Slopes.{FloatSlopes, NearSlopes, tableSlopes, slopesOutcome, SlopesMeet}
 
 -- ---- the tables
 
@@ -101,6 +102,8 @@ pub record TreeGives (W H : ℕ) (t : List ℕ) (n : ℕ) : Type 0 where
       → setOutcome W H t cs L i j number ≡ record { result = refused n; after = cs }
   pub exact : (cs : List ℤ) (u v : ℕ) → exactOutcome W H t cs u v ≡ refused n
   pub watts : (cs : List ℤ) (u v : ℕ) (given : Answer Float) → FloatMeets (exactOutcome W H t cs u v) given
+      → given ≡ refused n
+  pub slopes : (cs : List ℤ) (u v : ℕ) (given : Answer FloatSlopes) → SlopesMeet (slopesOutcome W H t cs u v) given
       → given ≡ refused n
   pub display : (cs : List ℤ) (u v : ℕ) → displayOutcome W H t cs u v ≡ refused n
   pub cost : (cs : List ℤ) (u v tariff : ℕ) → costOutcome W H t cs u v tariff ≡ refused n
@@ -207,11 +210,15 @@ pub record LastPoint (t : List ℕ) (cs : List ℤ) : Type 0 where
   pub exact : (v : ℕ) → v ≤ 128 → exactOutcome 1 1 t cs 128 v ≡ gives (tableReading 1 1 t cs 128 v)
   pub watts : (v : ℕ) (given : Answer Float) → v ≤ 128 → FloatMeets (exactOutcome 1 1 t cs 128 v) given
       → (x : Float) × (given ≡ gives x) × Near (2 ^ 30) D (tableReading 1 1 t cs 128 v) x
+  pub slopes : (v : ℕ) (given : Answer FloatSlopes) → v ≤ 128 → SlopesMeet (slopesOutcome 1 1 t cs 128 v) given
+      → (x : FloatSlopes) × (given ≡ gives x) × NearSlopes (tableSlopes 1 1 t cs 128 v) x
   pub display : (v : ℕ) → v ≤ 128 → displayOutcome 1 1 t cs 128 v ≡ gives (wholeWatts (tableReading 1 1 t cs 128 v))
   pub cost : (v tariff : ℕ) → v ≤ 128 → tariff ≤ 99999
       → costOutcome 1 1 t cs 128 v tariff ≡ gives (costOf (tableReading 1 1 t cs 128 v) tariff)
   pub exactPast : (v : ℕ) → exactOutcome 1 1 t cs 129 v ≡ refused 6
   pub wattsPast : (v : ℕ) (given : Answer Float) → FloatMeets (exactOutcome 1 1 t cs 129 v) given → given ≡ refused 6
+  pub slopesPast : (v : ℕ) (given : Answer FloatSlopes) → SlopesMeet (slopesOutcome 1 1 t cs 129 v) given
+      → given ≡ refused 6
   pub displayPast : (v : ℕ) → displayOutcome 1 1 t cs 129 v ≡ refused 6
   pub costPast : (v tariff : ℕ) → costOutcome 1 1 t cs 129 v tariff ≡ refused 6
 

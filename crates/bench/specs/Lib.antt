@@ -1,4 +1,5 @@
 pub mod Bench
 pub mod Cases
 pub mod CostCases
+pub mod SlopeCases
 pub mod LinkedBench

@@ -9,12 +9,12 @@ use lib.ListN.{length, getD, set, length-set, replicate, getD-replicate}
 use lib.Seq.{getD-set-same, getD-set-other}
 use Rattle.finite.specs.Range.{sum, sum2}
 use Rattle.finite.proofs.Sum.{sum-cong}
+use Rattle.finite.proofs.Weighted.{nested}
 use Rattle.surface.specs.Sheet.{functions}
 use Rattle.surface.specs.Truncation.{weight, weight2}
 use Rattle.surface.specs.Patch.{stencil}
 use Rattle.surface.proofs.Parents.{parents, parents2}
 use Rattle.patch.specs.Steps.{Small, midway, evenOf, oddOf}
-use Rattle.patch.proofs.Four.{nested}
 use Rattle.patch.proofs.Subdivision.{even-child, odd-child, even-size, odd-size}
 use Rattle.carry.specs.Carried.{Within, childOf, childFrom, columnChild, AlongV}
 
@@ -122,5 +122,6 @@ pub two-scale : (W H L a b : ℕ) (s : List ℤ) → a < functions W (suc L) →
     → childOf a (λ i. columnChild s (functions W L) b (a / 2 + i))
     ≡ sum2 (functions W L) (functions H L) (λ c d. weight2 c d a b *ℤ getD s (d * functions W L + c) (pos 0))
 two-scale W H L a b s ha hb =
-    nested 3 3 (stencil a) (stencil b) (λ i j. getD s ((b / 2 + j) * functions W L + (a / 2 + i)) (pos 0))
+    nested 3 3 (λ i. pos (stencil a i)) (λ j. pos (stencil b j))
+    (λ i j. getD s ((b / 2 + j) * functions W L + (a / 2 + i)) (pos 0))
     ∙ sym (parents2 W H L a b ha hb (λ c d. getD s (d * functions W L + c) (pos 0)))

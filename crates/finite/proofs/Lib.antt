@@ -4,6 +4,7 @@ pub mod Extremum
 pub mod Four
 pub mod Int
 pub mod Order
+pub mod Difference
 pub mod Sum
 pub mod Table
 pub mod Joined

@@ -5,7 +5,7 @@ use mathlib.Core.Path.{_≡_, refl, sym, ap, _∙_, subst}
 use mathlib.Core.Bool.{Bool, true, false, cond}
 use mathlib.Core.Logic.{_⊎_, inl, inr}
 use Prim.Native.Nat.{ℕ, zero, suc, _+_, _-_, _*_, _≤_, _<_}
-use native.Mathlib.Nat.{mul-le-mul-left, mul-zero}
+use native.Mathlib.Nat.{mul-le-mul, mul-le-mul-left, mul-zero}
 use native.Mathlib.Omega.{arith}
 use native.Mathlib.Decide.{decLe}
 use lib.Dec.{ltb, leb→le, le→leb}
@@ -109,3 +109,26 @@ abs-le (negsuc n) {m} h = (omega (zarith, neg-parts (pos m) .0, neg-parts (pos m
 pub le-abs : (z : ℤ) {m : ℕ} → negℤ (pos m) ≤ℤ z → z ≤ℤ pos m → natAbs z ≤ m
 le-abs (pos n) {m} h k = omega zarith
 le-abs (negsuc n) {m} h k = omega (zarith, neg-parts (pos m) .0, neg-parts (pos m) .1)
+
+-- the size of a sum and of a product
+pub abs-add : (a b : ℤ) {m n : ℕ} → natAbs a ≤ m → natAbs b ≤ n → natAbs (a +ℤ b) ≤ m + n
+abs-add a b {m} {n} h k =
+    let h0 = abs-le a h in
+    let k0 = abs-le b k in
+    le-abs (a +ℤ b)
+    (omega (zarith, sum-parts a b, neg-parts (pos m), neg-parts (pos n), neg-parts (pos (m + n))))
+    (omega (zarith, sum-parts a b))
+
+abs-neg : (z : ℤ) → natAbs (negℤ z) ≡ natAbs z
+abs-neg (pos zero) = refl
+abs-neg (pos (suc n)) = refl
+abs-neg (negsuc n) = refl
+
+abs-product : (a b : ℤ) → natAbs (a *ℤ b) ≡ natAbs a * natAbs b
+abs-product (pos a) (pos b) = refl
+abs-product (pos a) (negsuc b) = abs-neg (pos (a * suc b))
+abs-product (negsuc a) (pos b) = abs-neg (pos (suc a * b))
+abs-product (negsuc a) (negsuc b) = refl
+
+pub abs-mul : (a b : ℤ) {m n : ℕ} → natAbs a ≤ m → natAbs b ≤ n → natAbs (a *ℤ b) ≤ m * n
+abs-mul a b h k = rw (abs-product a b) (mul-le-mul h k)

@@ -1,7 +1,7 @@
 -- Sums with weights that are naturals. Each premise may use that its weight is not 0.
 use mathlib.Core.Path.{_≡_, sym, ap, _∙_, subst}
 use mathlib.Core.Logic.{_⊎_, inl, inr}
-use Prim.Native.Nat.{ℕ, _*_, _<_}
+use Prim.Native.Nat.{ℕ, _<_}
 use native.Mathlib.Nat.{eq-zero-or-pos}
 use lib.IntN.{ℤ, pos, _*ℤ_, zero-*ℤ, *ℤ-comm}
 use lib.Signed.{_≤ℤ_, ≤ℤ-refl}
@@ -55,23 +55,26 @@ weighted-cong n m w f g h =
     (λ a b la lb. term-cong (w a b) (f a b) (g a b) (h a b la lb))
 
 -- a weight that is a product leaves the sum along its direction
-split-weight : (n : ℕ) (x : ℕ) (w : ℕ → ℕ) (g : ℕ → ℤ)
-    → sum n (λ b. pos (x * w b) *ℤ g b) ≡ pos x *ℤ sum n (λ b. pos (w b) *ℤ g b)
+split-weight : (n : ℕ) (x : ℤ) (w g : ℕ → ℤ) → sum n (λ b. x *ℤ w b *ℤ g b) ≡ x *ℤ sum n (λ b. w b *ℤ g b)
 split-weight n x w g =
-    sum-cong n (λ b. pos (x * w b) *ℤ g b) (λ b. pos x *ℤ (pos (w b) *ℤ g b))
-    (λ b l. *ℤ-assoc (pos x) (pos (w b)) (g b))
-    ∙ sum-scale n (pos x) (λ b. pos (w b) *ℤ g b)
+    sum-cong n (λ b. x *ℤ w b *ℤ g b) (λ b. x *ℤ (w b *ℤ g b)) (λ b l. *ℤ-assoc x (w b) (g b))
+    ∙ sum-scale n x (λ b. w b *ℤ g b)
+
+-- weights that are products, one of each direction: a weighted sum of weighted sums
+pub nested : (n m : ℕ) (w w′ : ℕ → ℤ) (f : ℕ → ℕ → ℤ)
+    → sum n (λ a. w a *ℤ sum m (λ b. w′ b *ℤ f a b)) ≡ sum2 n m (λ a b. w a *ℤ w′ b *ℤ f a b)
+nested n m w w′ f =
+    sum-cong n (λ a. w a *ℤ sum m (λ b. w′ b *ℤ f a b)) (λ a. sum m (λ b. w a *ℤ w′ b *ℤ f a b))
+    (λ a la. sym (split-weight m (w a) w′ (λ b. f a b)))
 
 -- where the weighted sum along each direction has fewer terms, so has the sum over both
-pub both-directions : (n m k l : ℕ) (w w′ s s′ g g′ : ℕ → ℕ)
-    → ((f : ℕ → ℤ) → sum n (λ a. pos (w a) *ℤ f a) ≡ sum k (λ i. pos (s i) *ℤ f (g i)))
-    → ((f : ℕ → ℤ) → sum m (λ b. pos (w′ b) *ℤ f b) ≡ sum l (λ j. pos (s′ j) *ℤ f (g′ j)))
+pub both-directions : (n m k l : ℕ) (w w′ s s′ : ℕ → ℤ) (g g′ : ℕ → ℕ)
+    → ((f : ℕ → ℤ) → sum n (λ a. w a *ℤ f a) ≡ sum k (λ i. s i *ℤ f (g i)))
+    → ((f : ℕ → ℤ) → sum m (λ b. w′ b *ℤ f b) ≡ sum l (λ j. s′ j *ℤ f (g′ j)))
     → (f : ℕ → ℕ → ℤ)
-    → sum2 n m (λ a b. pos (w a * w′ b) *ℤ f a b) ≡ sum2 k l (λ i j. pos (s i * s′ j) *ℤ f (g i) (g′ j))
+    → sum2 n m (λ a b. w a *ℤ w′ b *ℤ f a b) ≡ sum2 k l (λ i j. s i *ℤ s′ j *ℤ f (g i) (g′ j))
 both-directions n m k l w w′ s s′ g g′ along along′ f =
-    sum-cong n (λ a. sum m (λ b. pos (w a * w′ b) *ℤ f a b)) (λ a. pos (w a) *ℤ sum l (λ j. pos (s′ j) *ℤ f a (g′ j)))
-    (λ a la. split-weight m (w a) w′ (λ b. f a b) ∙ ap (λ t. pos (w a) *ℤ t) (along′ (λ b. f a b)))
-    ∙ along (λ a. sum l (λ j. pos (s′ j) *ℤ f a (g′ j)))
-    ∙ sum-cong k (λ i. pos (s i) *ℤ sum l (λ j. pos (s′ j) *ℤ f (g i) (g′ j)))
-    (λ i. sum l (λ j. pos (s i * s′ j) *ℤ f (g i) (g′ j)))
-    (λ i li. sym (split-weight l (s i) s′ (λ j. f (g i) (g′ j))))
+    sum-cong n (λ a. sum m (λ b. w a *ℤ w′ b *ℤ f a b)) (λ a. w a *ℤ sum l (λ j. s′ j *ℤ f a (g′ j)))
+    (λ a la. split-weight m (w a) w′ (λ b. f a b) ∙ ap (λ t. w a *ℤ t) (along′ (λ b. f a b)))
+    ∙ along (λ a. sum l (λ j. s′ j *ℤ f a (g′ j)))
+    ∙ nested k l s s′ (λ i j. f (g i) (g′ j))

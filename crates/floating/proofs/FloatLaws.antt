@@ -8,6 +8,7 @@ use native.Mathlib.Nat.{div-lt-iff-lt-mul, div-add-mod', mod-lt, div-div-eq-div-
 use native.Mathlib.Omega.{arith}
 use lib.Dec.{lit≤}
 use lib.IntN.{ℤ, pos, negsuc, negℤ, natAbs, _-ℤ_, _*ℤ_}
+use lib.Signed.{mag}
 use lib.Pow.{pow-add, pow-pos, pow-mono, pow-lt}
 use lib.Ieee.{Float, nan, inf, fin, Format, binary32, binary64, prec, emax, low, up, down, unlike, size, round}
 use lib.Ieee.{div, ofInt}
@@ -209,3 +210,8 @@ quotient-near {f} {i} (pos a) q k r p h =
 quotient-near {f} {i} (negsuc a) q k r p h =
     near-first true (suc a) q k r p h (round f true (suc a) 1)
     (round-close f true (suc a) 1 i (lit≤ tt) (omega arith) (r .first))
+
+-- an i64 is at most one more in size than its magnitude
+pub abs-mag : (n : ℤ) → natAbs n ≤ suc (mag n)
+abs-mag (pos a) = omega arith
+abs-mag (negsuc a) = omega arith

@@ -1,14 +1,16 @@
 // The calls for other languages: plain numbers and slices in, the refusal number back, 0 where there is none. A slice
 // passes as a pointer and a length. What a call gives beside is written through its last parameters, and nothing is
 // written where it refuses. What a call writes must not overlap anything else that it is lent.
+pub mod flag;
+
 ghost use mathlib.Core.Path.{_≡_};
-ghost use mathlib.Core.Bool.{cond};
 ghost use lib.Dec.{ltb};
 ghost use Rattle.surface.specs.Table.{tableCause};
 ghost use Rattle.surface.specs.Calls.{leastOutcome, activityOutcome, freshOutcome, setOutcome};
 ghost use Rattle.surface.specs.Calls.{exactOutcome, displayOutcome, costOutcome};
+ghost use Rattle.surface.specs.Slopes.{slopesOutcome};
 ghost use Rattle.surface.specs.Note.{lentNote};
-ghost use Rattle.answers.specs.Codes.{codeOf, NumberTold, LeastTold, WattsAfter};
+ghost use Rattle.answers.specs.Codes.{codeOf, NumberTold, LeastTold, WattsAfter, SlopesAfter};
 ghost use Rattle.answers.specs.Codes.{SliceWritten, TableWritten};
 ghost use Rattle.demands.specs.LinkedPromises.{KilnInsertPromise, KilnExactPromise};
 ghost use Rattle.demands.specs.FilePromises.{KilnReadPromise, KilnBenchPromise, KilnWritePromise};
@@ -214,6 +216,36 @@ pub extern "C" fn kiln_watts(
     }
 }
 
+// The watts and both slopes: `watts`, `along_u` and `along_v` receive them.
+#[no_mangle]
+pub extern "C" fn kiln_slopes(
+    w: usize,
+    h: usize,
+    tree: &[u8],
+    numbers: &[i64],
+    u: usize,
+    v: usize,
+    watts: &mut f64,
+    along_u: &mut f64,
+    along_v: &mut f64,
+) -> u8
+    ensures { λ r. ⌜ (r ≡ codeOf (slopesOutcome w h (now (tree .entry)) (now (numbers .entry)) u v))
+        × SlopesAfter (slopesOutcome w h (now (tree .entry)) (now (numbers .entry)) u v)
+        (record { watts = now (watts .entry); alongU = now («along_u» .entry); alongV = now («along_v» .entry) })
+        (record { watts = now (watts .exit); alongU = now («along_u» .exit); alongV = now («along_v» .exit) }) ⌝ }
+{
+    let r = readings::slopes(w, h, tree, numbers, u, v);
+    match r {
+        answers::Slopes::Given(x) => {
+            *watts = x.watts;
+            *along_u = x.along_u;
+            *along_v = x.along_v;
+            0
+        }
+        answers::Slopes::Refused(n) => n,
+    }
+}
+
 // The display: `watts` receives whole watts.
 #[no_mangle]
 pub extern "C" fn kiln_display(
@@ -327,23 +359,13 @@ pub extern "C" fn kiln_read_bench(
             *tree_length = n;
             *w = wide;
             *h = high;
-            *noted = bit(note.stands);
+            *noted = flag::bit(note.stands);
             *note_offset = note.offset;
             *note_length = note.length;
             0
         }
         answers::File::Refused(n) => n,
     }
-}
-
-// A bool as a number.
-fn bit(b: bool) -> u8
-    ensures { λ r. ⌜ r ≡ cond b 1 0 ⌝ }
-{
-    if b {
-        return 1;
-    }
-    0
 }
 
 // Writes the file of a table, with a note unless `noted` is 0; `length` receives the file's length.

@@ -3,4 +3,3 @@ pub mod Four
 pub mod Subdivision
 pub mod FourByFour
 pub mod Lines
-pub mod Evaluation

@@ -1,41 +1,19 @@
 -- The size of a signed number: sums and products of i64 numbers of bounded size fit, and are those of the integers.
-use mathlib.Core.Path.{_≡_, refl}
-use Prim.Native.Nat.{ℕ, zero, suc, _+_, _*_, _^_, _≤_, _<_}
-use native.Mathlib.Nat.{le-refl, le-suc, le-trans, lt-of-le-of-lt, mul-le-mul}
-use lib.IntN.{ℤ, pos, negsuc, negℤ, natAbs, _+ℤ_, _*ℤ_}
+use mathlib.Core.Path.{_≡_}
+use Prim.Native.Nat.{ℕ, _+_, _*_, _^_, _≤_, _<_}
+use native.Mathlib.Nat.{le-refl, le-suc, le-trans, lt-of-le-of-lt}
+use lib.IntN.{ℤ, pos, negsuc, natAbs, _+ℤ_, _*ℤ_}
 use lib.Signed.{mag}
 use mir.Syntax.{w64}
 use mir.Val.{SFits, toZ, ofZ}
 use mir.ValLaws.{toZ-ofZ, toZ-pos}
-use Rattle.finite.proofs.Order.{zarith, abs-le, le-abs, sum-parts, neg-parts}
-
-pub abs-add : (a b : ℤ) {m n : ℕ} → natAbs a ≤ m → natAbs b ≤ n → natAbs (a +ℤ b) ≤ m + n
-abs-add a b {m} {n} h k =
-    let h0 = abs-le a h in
-    let k0 = abs-le b k in
-    le-abs (a +ℤ b)
-    (omega (zarith, sum-parts a b, neg-parts (pos m), neg-parts (pos n), neg-parts (pos (m + n))))
-    (omega (zarith, sum-parts a b))
-
-abs-neg : (z : ℤ) → natAbs (negℤ z) ≡ natAbs z
-abs-neg (pos zero) = refl
-abs-neg (pos (suc n)) = refl
-abs-neg (negsuc n) = refl
-
-abs-product : (a b : ℤ) → natAbs (a *ℤ b) ≡ natAbs a * natAbs b
-abs-product (pos a) (pos b) = refl
-abs-product (pos a) (negsuc b) = abs-neg (pos (a * suc b))
-abs-product (negsuc a) (pos b) = abs-neg (pos (suc a * b))
-abs-product (negsuc a) (negsuc b) = refl
-
-pub abs-mul : (a b : ℤ) {m n : ℕ} → natAbs a ≤ m → natAbs b ≤ n → natAbs (a *ℤ b) ≤ m * n
-abs-mul a b h k = rw (abs-product a b) (mul-le-mul h k)
+use Rattle.finite.proofs.Order.{abs-add, abs-mul}
 
 mag-abs : (z : ℤ) → mag z ≤ natAbs z
 mag-abs (pos n) = le-refl n
 mag-abs (negsuc n) = le-suc n
 
-fits : (z : ℤ) {m : ℕ} → natAbs z ≤ m → m < 2 ^ 63 → SFits w64 z
+pub fits : (z : ℤ) {m : ℕ} → natAbs z ≤ m → m < 2 ^ 63 → SFits w64 z
 fits z h l = record { sfits = lt-of-le-of-lt (le-trans (mag-abs z) h) l }
 
 -- the bits are those of the integer z, of at most m in size

@@ -12,11 +12,13 @@ use mir.Val.{SFits, toZ, ofZ}
 use mir.ValLaws.{toZ-ofZ}
 use Rattle.finite.specs.Range.{sum}
 use Rattle.finite.proofs.Int.{*ℤ-add, one-*ℤ}
+use Rattle.finite.proofs.Order.{abs-add, abs-mul}
+use Rattle.finite.proofs.Weighted.{nested}
 use Rattle.surface.specs.Patch.{stencil}
 use Rattle.patch.specs.Patches.{entry, Bounded, Subdivided}
 use Rattle.patch.specs.Steps.{Small, evenOf, oddOf, childrenOf, patchOf, alongV, alongU}
-use Rattle.patch.proofs.Size.{abs-add, abs-mul, kept}
-use Rattle.patch.proofs.Four.{each, nested}
+use Rattle.patch.proofs.Size.{kept}
+use Rattle.patch.proofs.Four.{each}
 
 -- child c of the function f, from its three possible parents
 abbrev child : ℕ → (ℕ → ℤ) → ℤ
@@ -89,7 +91,8 @@ subdivides p g h hg hh k l hk hl =
     column-entry (alongV h p) g k l hk hl
     ∙ (λ i. getD (childrenOf g (e 0 (lit< tt) i) (e 1 (lit< tt) i) (e 2 (lit< tt) i) (e 3 (lit< tt) i)) k (pos 0))
     ∙ children-are g (λ i. child (h + l) (entry p i)) hg k hk
-    ∙ nested 3 3 (stencil (g + k)) (stencil (h + l)) (λ i j. entry p ((g + k) / 2 + i) ((h + l) / 2 + j))
+    ∙ nested 3 3 (λ i. pos (stencil (g + k) i)) (λ j. pos (stencil (h + l) j))
+    (λ i j. entry p ((g + k) / 2 + i) ((h + l) / 2 + j))
 
 -- ---- bounds
 

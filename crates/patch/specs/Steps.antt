@@ -2,12 +2,10 @@
 use mathlib.Core.Bool.{cond}
 use mathlib.Core.Path.{_≡_}
 use mathlib.Core.List.{List, [], _∷_}
-use Prim.Native.Nat.{ℕ, _+_, _*_, _/_, _%_, _^_, _≤_, _<_}
+use Prim.Native.Nat.{ℕ, _*_, _/_, _%_, _≤_, _<_}
 use lib.IntN.{ℤ, pos, natAbs, _+ℤ_, _*ℤ_}
 use lib.Dec.{eqb}
 use lib.ListN.{getD, set}
-use Rattle.surface.specs.Spline.{piece}
-use Rattle.patch.specs.declared.Splines.{Splines}
 use Rattle.patch.specs.Patches.{entry}
 
 -- the largest entry between the two directions of a step: 8 times 131072000
@@ -86,29 +84,3 @@ alongV h p =
 unfoldable pub alongU : ℕ → List (List ℤ) → List (List ℤ)
 alongU g p =
     patchOf (λ k l. getD (childrenOf g (entry p 0 l) (entry p 1 l) (entry p 2 l) (entry p 3 l)) k (pos 0))
-
--- the four splines of a cell at r steps of n
-abbrev pub splinesOf : ℕ → ℕ → Splines
-splinesOf n r =
-    record { a = pos (piece 0 r n); b = pos (piece 1 r n); c = pos (piece 2 r n); d = pos (piece 3 r n) }
-
--- what these add up to
-abbrev pub whole : ℕ → ℕ
-whole n = 6 * n ^ 3
-
--- numbers that add up to at most t in size
-abbrev pub Weights : ℕ → Splines → Type 0
-Weights t w = natAbs (w .a) + natAbs (w .b) + natAbs (w .c) + natAbs (w .d) ≤ t
-
--- four numbers of at most m in size
-abbrev pub Row : ℕ → List ℤ → Type 0
-Row m x = (k : ℕ) → k < 4 → natAbs (getD x k (pos 0)) ≤ m
-
--- such weights and numbers, whose weighted sum fits
-abbrev pub Fit : Splines → List ℤ → Type 0
-Fit w x = (t : ℕ) × (m : ℕ) × Weights t w × Row m x × (t < 2 ^ 63) × (m < 2 ^ 63) × (t * m < 2 ^ 63)
-
--- the weighted sum of four
-unfoldable pub weighed : Splines → List ℤ → ℤ
-weighed w x =
-    w .a *ℤ getD x 0 (pos 0) +ℤ w .b *ℤ getD x 1 (pos 0) +ℤ w .c *ℤ getD x 2 (pos 0) +ℤ w .d *ℤ getD x 3 (pos 0)

@@ -1,13 +1,12 @@
-// The four by four patch of coefficients, an array of arrays by value: subdivided from level to level, and evaluated.
-// Entry [k][l] is that of the k-th function along u and the l-th along v. A step of subdivision works in place, in one
-// array beside the patch that it is given: its functions take numbers, or are lent that array.
+// The four by four patch of coefficients, an array of arrays by value, subdivided from level to level. Entry [k][l] is
+// that of the k-th function along u and the l-th along v. A step works in place, in one array beside the patch that it
+// is given: its functions take numbers, or are lent that array.
 ghost use mathlib.Core.Path.{_≡_};
-ghost use Prim.Native.Nat.{_*_, _≤_, _<_};
-ghost use Rattle.patch.specs.Patches.{Bounded, Subdivided, OfLevel, Evaluated};
+ghost use Prim.Native.Nat.{_≤_, _<_};
+ghost use Rattle.patch.specs.Patches.{Bounded, Subdivided};
 ghost use lib.IntN.{ℤ, _+ℤ_};
 ghost use Rattle.patch.specs.Steps.{midway, Small, Paired, evenOf, oddOf, FourByFour, placed, withPlace};
 ghost use Rattle.patch.specs.Steps.{Parents, withChildren, alongV, alongU};
-ghost use Rattle.patch.specs.Steps.{splinesOf, Fit, weighed};
 
 // An even child, of two parents in a row.
 pub fn even(x: i64, y: i64) -> i64
@@ -138,64 +137,4 @@ pub fn subdivide(p: [[i64; 4]; 4], g: usize, h: usize) -> [[i64; 4]; 4]
     along_v(&mut r, h);
     along_u(&mut r, g);
     r
-}
-
-// The four splines of a cell at a point, as whole numbers.
-struct Splines {
-    a: i64,
-    b: i64,
-    c: i64,
-    d: i64,
-}
-
-// A product of three numbers of steps.
-fn triple(x: usize, y: usize, z: usize) -> usize
-    requires { ⌜ (x ≤ 128) × (y ≤ 128) × (z ≤ 128) ⌝ }
-    ensures { λ n. ⌜ (n ≡ x * y * z) × (n ≤ 2097152) ⌝ }
-{
-    x * y * z
-}
-
-// The splines at r steps into a cell of n, with q steps left.
-fn splines_at(n: usize, r: usize) -> Splines
-    requires { ⌜ (r ≤ n) × (n ≤ 128) ⌝ }
-    ensures { λ w. ⌜ w ≡ splinesOf n r ⌝ }
-{
-    let q = n - r;
-    let a = triple(q, q, q);
-    let x = triple(r, r, q);
-    let y = triple(r, q, q);
-    let d = triple(r, r, r);
-    Splines {
-        a: a as i64,
-        b: (d + 6 * x + 12 * y + 4 * a) as i64,
-        c: (4 * d + 12 * x + 6 * y + a) as i64,
-        d: d as i64,
-    }
-}
-
-// A weighted sum of four.
-fn weigh(w: Splines, x: [i64; 4]) -> i64
-    requires { ⌜ Fit w x ⌝ }
-    ensures { λ z. ⌜ z ≡ weighed w x ⌝ }
-{
-    w.a * x[0] + w.b * x[1] + w.c * x[2] + w.d * x[3]
-}
-
-// The patch of a level with n steps to a cell, at the point r and s steps into its cell.
-pub fn evaluate(p: [[i64; 4]; 4], n: usize, r: usize, s: usize) -> i64
-    requires { ⌜ (r ≤ n) × (s ≤ n) × OfLevel n p ⌝ }
-    ensures { λ x. ⌜ Evaluated n p r s x ⌝ }
-{
-    let u = splines_at(n, r);
-    let v = splines_at(n, s);
-    weigh(
-        u,
-        [
-            weigh(v, p[0]),
-            weigh(v, p[1]),
-            weigh(v, p[2]),
-            weigh(v, p[3]),
-        ],
-    )
 }

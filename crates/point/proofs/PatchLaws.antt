@@ -1,14 +1,15 @@
--- The patch of a level from that of the level before it; under the rows as under the tree; and the reading.
-use mathlib.Core.Path.{_≡_, refl, sym, ap, ap₂, _∙_}
+-- The patch of a level from that of the level before it; under the rows as under the tree; the reading and the slopes.
+use mathlib.Core.Path.{_≡_, refl, sym, ap, ap₂, _∙_, subst}
 use mathlib.Core.Bool.{Bool, true, cond}
 use mathlib.Core.List.{List}
 use Prim.Native.Nat.{ℕ, zero, suc, _+_, _-_, _*_, _%_, _^_, _≤_, _<_, min}
-use native.Mathlib.Nat.{le-trans, add-mul, mul-comm, mul-le-mul-left, pow-le-pow-right}
+use native.Mathlib.Nat.{le-refl, le-trans, mul-le-mul-left, pow-le-pow-right}
 use native.Mathlib.Omega.{arith}
 use borrow.Author.Tests.{le-leb}
 use lib.Dec.{leb}
 use lib.IntN.{ℤ, pos, _*ℤ_}
 use lib.ListN.{length, getD}
+use Rattle.finite.specs.Range.{sum2}
 use Rattle.finite.proofs.Bits.{bit-small}
 use Rattle.finite.proofs.Sum.{sum2-cong}
 use Rattle.finite.proofs.Tests.{and-intro}
@@ -16,17 +17,22 @@ use Rattle.surface.specs.Sheet.{steps, quarterOf, onSheet}
 use Rattle.surface.specs.Spline.{cellOf, piece}
 use Rattle.surface.specs.Support.{leastUnder, inRegion}
 use Rattle.surface.specs.Patch.{subdivided, patch, stopLevel}
+use Rattle.surface.specs.Slopes.{pieceSlope, tableSlopes}
 use Rattle.surface.specs.Table.{levels, coefficients, limit, slots, Acceptable, tableReading}
-use Rattle.surface.proofs.SplineCell.{cell-inside}
 use Rattle.surface.proofs.PatchReading.{subdivided-cong}
 use Rattle.surface.proofs.TableLaws.{sound, sides}
 use Rattle.surface.proofs.Greatest.{stop-level}
 use Rattle.surface.proofs.Demands.{patch-evaluates, any-level}
+use Rattle.surface.proofs.Derivatives.{patch-slopes}
 use Rattle.rows.specs.Rows.{levelsOf, Nested}
 use Rattle.rows.proofs.RowLaws.{rows-nested, rows-least, level-rows}
-use Rattle.patch.specs.Patches.{entry, Bounded, Evaluated}
+use Rattle.patch.specs.Patches.{entry, Bounded}
+use Rattle.evaluation.specs.declared.Slopes.{Slopes}
+use Rattle.evaluation.specs.Evaluated.{OfLevel, Evaluated, SlopesEvaluated, exactSlopes}
 use Rattle.point.specs.OfTable.{OfTable}
 use Rattle.point.specs.Patches.{PatchAt}
+use Rattle.point.specs.declared.cell.Place.{Place}
+use Rattle.point.specs.Places.{PlaceOf}
 
 -- ---- one level on
 
@@ -84,14 +90,6 @@ stop-small W H u v rows pW pH =
     ))
 
 -- ---- an acceptable table
-
--- a point lies at most the steps of a cell into its cell, at the far edge too
-pub steps-left : (n L u a s : ℕ) → 0 < n → u ≤ 128 * n → L ≤ 3 → a ≡ cellOf n L u → s ≡ steps L
-    → (s * a ≤ u) × (u - s * a ≤ s)
-steps-left n L u a s p h l e es =
-    let i = cell-inside n L u p h l in
-    let same : s * a ≡ cellOf n L u * steps L = ap₂ _*_ es e ∙ mul-comm (steps L) (cellOf n L u) in
-    (omega (arith, i .1, same), omega (arith, i .2, same, add-mul (cellOf n L u) 1 (steps L), es))
 
 -- a point of the sheet, and a tree that the rows are of and with which the table is acceptable
 abbrev pub Readable : ℕ → ℕ → List ℕ → List ℤ → ℕ → ℕ → Type 0
@@ -151,22 +149,56 @@ module _ (W H : ℕ) (rows : List ℕ) (cs : List ℤ) (u v : ℕ) (given : Read
       ∙ level-rows t q r (omega (arith, n .0, n .1)) (omega (arith, n .2, n .3))
       ∙ sym (stop-level W H (levels t) u v (n .0) (n .2))
 
-  -- the value of the patch of that level is the reading
-  pub reading-of : (L a b s : ℕ) (p : List (List ℤ)) (x : ℤ) → L ≡ stopLevel W H (levelsOf rows) u v → s ≡ steps L
-      → a ≡ cellOf W L u → b ≡ cellOf H L v → PatchAt W H rows cs u v L p → Evaluated s p (u - s * a) (v - s * b) x
-      → x ≡ tableReading W H t cs u v
-  reading-of L a b s p x el es ea eb at e =
-      let n = sides (sound W H t cs acc) in
-      let r = u - cellOf W L u * steps L in
-      let z = v - cellOf H L v * steps L in
-      let er : u - s * a ≡ r = ap (λ m. u - m) (ap₂ _*_ es ea ∙ mul-comm (steps L) (cellOf W L u)) in
-      let ez : v - s * b ≡ z = ap (λ m. v - m) (ap₂ _*_ es eb ∙ mul-comm (steps L) (cellOf H L v)) in
-      let low : L ≤ 3 = rw el (stop-small W H u v rows (n .0) (n .2)) in
-      let stops : min (stopLevel W H (levels t) u v) 3 ≤ L = omega (arith, el ∙ stop-tree) in
-      e
-      ∙ sum2-cong 4 4 (λ k l. pos (piece k (u - s * a) s * piece l (v - s * b) s) *ℤ entry p k l)
-      (λ k l. pos (piece k r (steps L) * piece l z (steps L))
+  -- what is evaluated of the patch of that level, by weights that are those of the point's place in its cell
+  evaluated-at : (L : ℕ) (at : Place) (p : List (List ℤ)) (f g : ℕ → ℕ → ℕ → ℤ)
+      → PlaceOf W H L u v at → PatchAt W H rows cs u v L p
+      → sum2 4 4 (λ k l. f k (at .r) (at .steps) *ℤ g l (at .s) (at .steps) *ℤ entry p k l)
+      ≡ sum2 4 4 (λ k l. f k (u - cellOf W L u * steps L) (steps L) *ℤ g l (v - cellOf H L v * steps L) (steps L)
       *ℤ patch W H (levels t) (coefficients W H cs) u v L k l)
-      (λ k l hk hl. ap₂ (λ m c. pos m *ℤ c) (ap₂ _*_ (ap₂ (piece k) er es) (ap₂ (piece l) ez es))
-      (at k l hk hl ∙ by-tree L k l hk hl))
-      ∙ sym (any-level W H (levels t) (coefficients W H cs) u v (n .0) (n .2) (given .0) (given .1) L low stops .1)
+  evaluated-at L at p f g place patched =
+      sum2-cong 4 4 _ _
+      (λ k l hk hl. ap₂ _*ℤ_
+      (ap₂ _*ℤ_ (ap₂ (f k) (place .intoU) (place .side)) (ap₂ (g l) (place .intoV) (place .side)))
+      (patched k l hk hl ∙ by-tree L k l hk hl))
+
+  module _ (L : ℕ) (at : Place) (p : List (List ℤ)) (el : L ≡ stopLevel W H (levelsOf rows) u v)
+      (place : PlaceOf W H L u v at) (found : PatchAt W H rows cs u v (stopLevel W H (levelsOf rows) u v) p) where
+    low : L ≤ 3
+    low = let n = sides (sound W H t cs acc) in rw el (stop-small W H u v rows (n .0) (n .2))
+
+    patched : PatchAt W H rows cs u v L p
+    patched = subst (λ L. PatchAt W H rows cs u v L p) (sym el) found
+
+    -- what `evaluate` and `evaluate_slopes` ask
+    pub evaluate-ready : (at .r ≤ at .steps) × (at .s ≤ at .steps) × OfLevel (at .steps) p
+    evaluate-ready =
+        let below : L < 4 = omega (arith, low) in (
+          place .withinU,
+          place .withinV,
+          (L, below, place .side, patch-bounded L (limit L) p below (le-refl (limit L)) patched),
+        )
+
+    stops : min (stopLevel W H (levels t) u v) 3 ≤ L
+    stops = omega (arith, el ∙ stop-tree)
+
+    -- the value of the patch of that level is the reading
+    pub reading-of : (x : ℤ) → Evaluated (at .steps) p (at .r) (at .s) x → x ≡ tableReading W H t cs u v
+    reading-of x e =
+        let n = sides (sound W H t cs acc) in
+        e
+        ∙ evaluated-at L at p (λ k r s. pos (piece k r s)) (λ l r s. pos (piece l r s)) place patched
+        ∙ sym (any-level W H (levels t) (coefficients W H cs) u v (n .0) (n .2) (given .0) (given .1) L low stops .1)
+
+    -- and its slopes are the slopes
+    pub slopes-of : (x : Slopes) → SlopesEvaluated (at .steps) p (at .r) (at .s) x
+        → exactSlopes x ≡ tableSlopes W H t cs u v
+    slopes-of x e =
+        let n = sides (sound W H t cs acc) in
+        let slopes =
+        patch-slopes W H (levels t) (coefficients W H cs) u v (n .0) (n .2) (given .0) (given .1) L low stops in
+        let watts = reading-of (x .watts) (e .watts) in
+        let alongU =
+        e .alongU ∙ evaluated-at L at p pieceSlope (λ l r s. pos (piece l r s)) place patched ∙ sym (slopes .0) in
+        let alongV =
+        e .alongV ∙ evaluated-at L at p (λ k r s. pos (piece k r s)) pieceSlope place patched ∙ sym (slopes .1) in
+        λ i. record { watts = watts i; alongU = alongU i; alongV = alongV i }

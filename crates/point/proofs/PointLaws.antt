@@ -26,6 +26,14 @@ cell-found n L u s f r p h l es ef e =
     let same : r ≡ cellOf n L u = e ∙ ap₂ min (ap (λ k. u / k) es) last in
     (same, omega (arith, cell-inside n L u p h l))
 
+-- a point lies at most the steps of a cell into its cell, at the far edge too
+pub steps-left : (n L u a s : ℕ) → 0 < n → u ≤ 128 * n → L ≤ 3 → a ≡ cellOf n L u → s ≡ steps L
+    → (s * a ≤ u) × (u - s * a ≤ s)
+steps-left n L u a s p h l e es =
+    let i = cell-inside n L u p h l in
+    let same : s * a ≡ cellOf n L u * steps L = ap₂ _*_ es e ∙ mul-comm (steps L) (cellOf n L u) in
+    (omega (arith, i .1, same), omega (arith, i .2, same, add-mul (cellOf n L u) 1 (steps L), es))
+
 -- what holds of four in a row holds of each by its number
 pub at-four : {A : Type 0} (P : ℕ → A → Type 0) (d : A) {x y z w : A} → P 0 x → P 1 y → P 2 z → P 3 w
     → (k : ℕ) → k < 4 → P k (getD (x ∷ y ∷ z ∷ w ∷ []) k d)

@@ -1,2 +1,3 @@
 pub mod OfTable
 pub mod Patches
+pub mod Places

@@ -13,7 +13,7 @@ use Rattle.surface.specs.Support.{leastUnder, active, activeInRow, activ
 use Rattle.surface.specs.Support.{leastWhere, greatestWhere, inBox}
 use Rattle.surface.specs.Patch.{stopLevel}
 use Rattle.surface.specs.Spline.{cellOf, piece, splineAt}
-use Rattle.surface.specs.Truncation.{D, weight, truncated}
+use Rattle.surface.specs.Truncation.{D, weight, truncation, truncated}
 use Rattle.surface.specs.Carry.{raised, carried}
 use Rattle.surface.specs.Table.{levels, start, coefficients, withinLimits, passiveZero, regionCause, tableCause}
 use Rattle.surface.specs.Calls.{Answer, refused, gives, wholeWatts, costOf}
@@ -59,7 +59,7 @@ islet q r = cond (leb 1 q && ltb q 3 && (leb 1 r && ltb r 3)) 3 1
 -- Function (−1, −1) of level 1, truncated, in the middle: worked by fractions. (Untruncated, and truncated against
 -- level 2 only, it is 2^40 there.)
 pub three-levels : truncated 1 1 islet 64 64 2 1 2 2 ≡ pos 579820584960
-unfolding truncated sum leastUnder least eighths weight splineAt cellOf piece
+unfolding truncation sum leastUnder least eighths weight splineAt cellOf piece
 three-levels = refl
 
 -- ---- carrying

@@ -15,7 +15,7 @@ use Rattle.finite.proofs.Weighted.{weighted-low, weighted-high}
 use Rattle.surface.specs.Sheet.{functions, eighths}
 use Rattle.surface.specs.Support.{leastUnder}
 use Rattle.surface.specs.Spline.{cellOf, piece, splineAt}
-use Rattle.surface.specs.Truncation.{weight, weight2, reading}
+use Rattle.surface.specs.Truncation.{weight, weight2, valueAt, reading}
 use Rattle.surface.specs.Carry.{carried}
 use Rattle.surface.proofs.SplinePiece.{piece-sum}
 use Rattle.surface.proofs.SplineCell.{cell-point, cell-inside, spline-low, spline-far}
@@ -120,7 +120,7 @@ module _ (W H : ℕ) (lev : ℕ → ℕ → ℕ) (coef : ℕ → ℕ → ℕ →
       → ((a b : ℕ) → 0 < splineAt W 3 a u → 0 < splineAt H 3 b v → P 3 a b)
       → Between (pos 603979776 *ℤ lo) (reading W H lev coef u v) (pos 603979776 *ℤ hi)
   reading-between u v pW pH hu hv reach =
-      rw (carried-reading W H lev coef u v) (
+      rw (carried-reading W H lev coef (valueAt W H u v)) (
         subst (λ t. (t *ℤ lo) ≤ℤ S) total (weighted-low (functions W 3) (functions H 3) w x lo
             (λ a b la lb p. each a b la lb p .0)),
         subst (λ t. S ≤ℤ (t *ℤ hi)) total (weighted-high (functions W 3) (functions H 3) w x hi

@@ -1,4 +1,5 @@
--- The exact reading by truncated functions is the level 3 spline with the carried values for coefficients.
+-- The active coefficients times their truncated functions, at a point or along a slope there, are the carried values
+-- times the functions of level 3.
 use mathlib.Core.Path.{_≡_, refl, sym, ap, ap₂, _∙_}
 use mathlib.Core.Logic.{_⊎_, inl, inr}
 use mathlib.Core.Bool.{Bool, true, false, cond}
@@ -16,8 +17,7 @@ use Rattle.finite.proofs.Weighted.{weighted-cong}
 use Rattle.finite.proofs.Tests.{pick}
 use Rattle.surface.specs.Sheet.{functions, quarters}
 use Rattle.surface.specs.Support.{leastUnder, active, inRegion}
-use Rattle.surface.specs.Spline.{splineAt}
-use Rattle.surface.specs.Truncation.{weight, weight2, truncated, reading}
+use Rattle.surface.specs.Truncation.{weight, weight2, truncation, activeSum}
 use Rattle.surface.specs.Carry.{carried}
 use Rattle.surface.proofs.Least.{leastUnder-parent, leastUnder-le-3, leastUnder-cong}
 
@@ -42,9 +42,9 @@ module _ (W H : ℕ) (lev : ℕ → ℕ → ℕ) (coef : ℕ → ℕ → ℕ →
   unfolding carried
   carried-sum L a b h = rw (lt-leb (suc L) (leastUnder W H lev (suc L) a b) (omega arith))
 
-  module _ (u v : ℕ) where
+  module _ (f : ℕ → ℕ → ℕ → ℤ) where
     abbrev trunc : ℕ → ℕ → ℕ → ℕ → ℤ
-    trunc n L a b = truncated W H lev u v n L a b
+    trunc n L a b = truncation W H lev f n L a b
 
     abbrev least-of : ℕ → ℕ → ℕ → ℕ
     least-of L a b = leastUnder W H lev L a b
@@ -117,7 +117,7 @@ module _ (W H : ℕ) (lev : ℕ → ℕ → ℕ) (coef : ℕ → ℕ → ℕ →
     spread : (n L a b : ℕ) → cond (leb (least-of L a b) L) (carry L a b *ℤ trunc (suc n) L a b) (pos 0)
         ≡ sum2 (functions W (suc L)) (functions H (suc L))
         (λ c d. cond (leb (least-of L a b) L) (carry L a b *ℤ (weight2 a b c d *ℤ kept n L c d)) (pos 0))
-    unfolding truncated
+    unfolding truncation
     spread n L a b =
         pick (leb (least-of L a b) L)
         (λ t. cond t (carry L a b *ℤ trunc (suc n) L a b) (pos 0)
@@ -194,21 +194,18 @@ module _ (W H : ℕ) (lev : ℕ → ℕ → ℕ) (coef : ℕ → ℕ → ℕ →
             (λ e. lt-leb m 0 (pos-of-ne-zero (eqb-false m 0 e)))
 
     -- at level 3 every function's least level is at most its own
-    coarse-3 : coarse 0 3
-        ≡ sum2 (functions W 3) (functions H 3) (λ a b. pos (splineAt W 3 a u * splineAt H 3 b v) *ℤ carry 3 a b)
-    unfolding truncated
+    coarse-3 : coarse 0 3 ≡ sum2 (functions W 3) (functions H 3) (λ a b. f 3 a b *ℤ carry 3 a b)
+    unfolding truncation
     coarse-3 =
         sum2-cong (functions W 3) (functions H 3)
         (λ a b. cond (leb (least-of 3 a b) 3) (carry 3 a b *ℤ trunc 0 3 a b) (pos 0))
-        (λ a b. pos (splineAt W 3 a u * splineAt H 3 b v) *ℤ carry 3 a b)
-        (λ a b la lb. rw (le-leb (least-of 3 a b) 3 (leastUnder-le-3 W H lev 3 a b))
-        (*ℤ-comm (carry 3 a b) (pos (splineAt W 3 a u * splineAt H 3 b v))))
+        (λ a b. f 3 a b *ℤ carry 3 a b)
+        (λ a b la lb. rw (le-leb (least-of 3 a b) 3 (leastUnder-le-3 W H lev 3 a b)) (*ℤ-comm (carry 3 a b) (f 3 a b)))
 
-    -- the exact reading is the level 3 spline whose coefficients are the carried values
-    pub carried-reading : reading W H lev coef u v
-        ≡ sum2 (functions W 3) (functions H 3) (λ a b. pos (splineAt W 3 a u * splineAt H 3 b v) *ℤ carried W H lev
-        coef 3 a b)
-    unfolding reading sum
+    -- the active coefficients times their truncated functions are the carried values times level 3's functions
+    pub carried-reading : activeSum W H lev coef f
+        ≡ sum2 (functions W 3) (functions H 3) (λ a b. f 3 a b *ℤ carried W H lev coef 3 a b)
+    unfolding activeSum sum
     carried-reading =
         ap (λ t. t +ℤ own 2 1 +ℤ own 1 2 +ℤ own 0 3) (+ℤ-idl (own 3 0) ∙ sym coarse-0)
         ∙ ap (λ t. t +ℤ own 1 2 +ℤ own 0 3) (coarse-step 2 0 (lit< tt))

@@ -1,26 +1,26 @@
 -- The demands: each statement of specs/Demands.antt, proved. (Demand 1 of the outcomes is in Refusals.)
-use mathlib.Core.Path.{_≡_, refl, sym, ap, ap₂, _∙_, subst}
+use mathlib.Core.Path.{_≡_, refl, sym, ap₂, _∙_, subst}
 use mathlib.Core.Bool.{Bool, true, false, cond}
 use mathlib.Core.List.{List}
-use Prim.Native.Nat.{ℕ, _+_, _*_, _≤_, min, max}
+use Prim.Native.Nat.{ℕ, _+_, _*_, _≤_, _<_, min, max}
 use native.Mathlib.Omega.{arith}
-use lib.IntN.{ℤ, natAbs, _+ℤ_, _*ℤ_}
+use lib.IntN.{ℤ, pos, natAbs, _+ℤ_, _*ℤ_}
 use lib.Dec.{ltb}
 use lib.ListN.{getD}
 use Rattle.surface.specs.Sheet.{functions, quarterOf, quarterBox, onSheet}
 use Rattle.surface.specs.Quadtree.{visits}
 use Rattle.surface.specs.Support.{active, inBox}
-use Rattle.surface.specs.Spline.{cellOf}
-use Rattle.surface.specs.Truncation.{D}
-use Rattle.surface.specs.Table.{cause, _orElse_, levels, place, coefficients, limit, tableCause}
-use Rattle.surface.specs.Table.{Acceptable, tableReading}
+use Rattle.surface.specs.Spline.{cellOf, splineAt}
+use Rattle.surface.specs.Truncation.{D, valueAt}
+use Rattle.surface.specs.Table.{cause, _orElse_, levels, slots, place, coefficients, limit, tableCause}
+use Rattle.surface.specs.Table.{Acceptable, tableSum, tableReading}
 use Rattle.surface.specs.Calls.{answer, afterwards, lengthCause, boxCause, leastOutcome}
-use Rattle.surface.specs.Demands.{SelectionRule, InsertionRaises, OneTree, LinearReadings, Bracketed}
+use Rattle.surface.specs.Demands.{SelectionRule, InsertionRaises, OneTree, SameRegions, LinearReadings, Bracketed}
 use Rattle.surface.specs.Demands.{BracketedReadings, afterAll, RefinementMovesNoReading, ReadingFits}
 use Rattle.surface.specs.Demands.{PatchEvaluates, AnyLevel, DotTold, TwoScale}
 use Rattle.surface.proofs.SmallLevels.{levels-small}
 use Rattle.surface.proofs.SplineCell.{cell-inside}
-use Rattle.surface.proofs.TwoScaleSum.{two-scale-sum, whole-step}
+use Rattle.surface.proofs.SplineTwoScale.{values-along, two-scale-sum, whole-step}
 use Rattle.surface.proofs.Selection.{selection}
 use Rattle.surface.proofs.SupportLaws.{holds-positive, cell-positive, untruncated}
 use Rattle.surface.specs.Demands.{SupportIsWhereNotZero, Untruncated}
@@ -110,8 +110,11 @@ patch-evaluates W H t cs acc u v on =
 -- Each level from the one at which a reading stops on gives the exact reading.
 pub any-level : AnyLevel
 any-level W H lev coef u v pW pH hu hv L hL h =
-    let low = subst (λ g. min g 3 ≤ L) (stop-level W H lev u v pW pH) h in
-    (level-reading W H lev coef u v pW pH hu hv L hL low, evaluated-reading W H lev coef u v pW pH hu hv L hL low)
+    let low = subst (λ g. min g 3 ≤ L) (stop-level W H lev u v pW pH) h in (
+      level-reading W H lev coef u v pW pH hu hv (λ L a. pos (splineAt W L a u)) (λ L b. pos (splineAt H L b v))
+          (values-along W u pW hu) (values-along H v pH hv) L hL low,
+      evaluated-reading W H lev coef u v pW pH hu hv L hL low,
+    )
 
 -- The least level call gives that level under the quarter square that holds the point.
 pub dot-told : DotTold
@@ -147,21 +150,29 @@ one-tree-each = one-tree-for
 
 -- ---- linearity
 
-pub linear-readings : LinearReadings
+-- whichever functions are read: their values, or their derivatives
+pub linear-sums : (W H : ℕ) (t₁ t₂ t₃ : List ℕ) (c₁ c₂ c₃ : List ℤ) (a b : ℤ)
+    → Acceptable W H t₁ c₁ → Acceptable W H t₂ c₂ → Acceptable W H t₃ c₃
+    → SameRegions W H t₁ t₂ → SameRegions W H t₁ t₃
+    → ((p : ℕ) → p < slots W H → getD c₁ p (pos 0) ≡ a *ℤ getD c₂ p (pos 0) +ℤ b *ℤ getD c₃ p (pos 0))
+    → (f : ℕ → ℕ → ℕ → ℤ) → tableSum W H t₁ c₁ f ≡ a *ℤ tableSum W H t₂ c₂ f +ℤ b *ℤ tableSum W H t₃ c₃ f
 unfolding coefficients
-linear-readings W H t₁ t₂ t₃ c₁ c₂ c₃ a b acc₁ acc₂ acc₃ same₂ same₃ e u v n₁ n₂ n₃ r₁ r₂ r₃ =
+linear-sums W H t₁ t₂ t₃ c₁ c₂ c₃ a b acc₁ acc₂ acc₃ same₂ same₃ e f =
     let s₁ = sound W H t₁ c₁ acc₁ in
     let hW = sides s₁ .1 in
     let hH = sides s₁ .3 in
     let e₂ = same-tree W H hW hH t₁ t₂ (s₁ .tree) (sound W H t₂ c₂ acc₂ .tree) same₂ in
     let e₃ = same-tree W H hW hH t₁ t₃ (s₁ .tree) (sound W H t₃ c₃ acc₃ .tree) same₃ in
+    linear W H (levels t₁) a b (coefficients W H c₁) (coefficients W H c₂) (coefficients W H c₃)
+    (λ L x y hL hx hy. e (place W H L x y) (place-in-slice W H L x y hL hx hy)) f
+    ∙ ap₂ (λ s t. a *ℤ tableSum W H s c₂ f +ℤ b *ℤ tableSum W H t c₃ f) e₂ e₃
+
+pub linear-readings : LinearReadings
+linear-readings W H t₁ t₂ t₃ c₁ c₂ c₃ a b acc₁ acc₂ acc₃ same₂ same₃ e u v n₁ n₂ n₃ r₁ r₂ r₃ =
     sym (reading-given W H t₁ c₁ u v n₁ .0 r₁ .2)
-    ∙ linear W H (levels t₁) a b (coefficients W H c₁) (coefficients W H c₂) (coefficients W H c₃)
-    (λ L x y hL hx hy. e (place W H L x y) (place-in-slice W H L x y hL hx hy)) u v
-    ∙ ap (λ t. a *ℤ tableReading W H t c₂ u v +ℤ b *ℤ tableReading W H t₁ c₃ u v) e₂
-    ∙ ap (λ t. a *ℤ tableReading W H t₂ c₂ u v +ℤ b *ℤ tableReading W H t c₃ u v) e₃
-    ∙ ap (λ x. a *ℤ x +ℤ b *ℤ tableReading W H t₃ c₃ u v) (reading-given W H t₂ c₂ u v n₂ .0 r₂ .2)
-    ∙ ap (λ x. a *ℤ n₂ +ℤ b *ℤ x) (reading-given W H t₃ c₃ u v n₃ .0 r₃ .2)
+    ∙ linear-sums W H t₁ t₂ t₃ c₁ c₂ c₃ a b acc₁ acc₂ acc₃ same₂ same₃ e (valueAt W H u v)
+    ∙ ap₂ (λ x y. a *ℤ x +ℤ b *ℤ y) (reading-given W H t₂ c₂ u v n₂ .0 r₂ .2)
+    (reading-given W H t₃ c₃ u v n₃ .0 r₃ .2)
 
 -- ---- insertions
 
@@ -178,7 +189,7 @@ refinement-moves-no-reading W H c ss acc =
     let d = afterAll W H c ss in
     let k = all-keep W H ss c acc in
     let same : (u v : ℕ) → exactOutcome W H (d .tree) (d .numbers) u v ≡ exactOutcome W H (c .tree) (c .numbers) u v =
-    λ u v. same-outcome W H (d .tree) (c .tree) (d .numbers) (c .numbers) (k .0) acc u v (k .1 u v) in
+    λ u v. same-outcome W H (d .tree) (c .tree) (d .numbers) (c .numbers) (k .0) acc u v (k .1 (valueAt W H u v)) in
     (k .0, λ u v. (same u v, λ n e. bracketed-readings W H (c .tree) (c .numbers) u v n (sym (same u v) ∙ e)))
 
 -- "A box insertion raises lower levels inside the box to the one named, and changes no others."

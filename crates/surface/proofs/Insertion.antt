@@ -13,7 +13,7 @@ use borrow.Author.Tests.{ltb-true, eqb-true, eq-eqb, ne-eqb}
 use Rattle.surface.specs.Sheet.{Box, functions, quarters}
 use Rattle.surface.specs.Support.{leastUnder, inBox}
 use Rattle.surface.specs.Carry.{carried, carriedOver}
-use Rattle.surface.specs.Table.{levels, coefficients, limit, tableReading}
+use Rattle.surface.specs.Table.{levels, coefficients, limit, tableSum}
 use Rattle.surface.specs.Calls.{newLevels, newTree, newCoefficients}
 use Rattle.surface.proofs.TreeLevels.{levelAt-beyond}
 use Rattle.surface.proofs.SmallLevels.{levels-small}
@@ -175,8 +175,9 @@ module _ (W H : ℕ) (t : List ℕ) (cs : List ℤ) (s : Sound W H t cs) (box : 
         passive = λ L a b hL ha hb act. new-coefficient L a b hL ha hb ∙ rw act;
       }
 
-  pub insertion-reading : (u v : ℕ)
-      → tableReading W H (newTree t box n) (newCoefficients W H t cs box n) u v ≡ tableReading W H t cs u v
-  insertion-reading u v =
-      reading-cong W H new (coefficients W H (newCoefficients W H t cs box n)) after new-coefficient u v
-      ∙ refine-reading W H (levels t) new rise (coefficients W H cs) u v
+  -- whichever functions are read: their values, or their derivatives
+  pub insertion-reading : (f : ℕ → ℕ → ℕ → ℤ)
+      → tableSum W H (newTree t box n) (newCoefficients W H t cs box n) f ≡ tableSum W H t cs f
+  insertion-reading f =
+      reading-cong W H new (coefficients W H (newCoefficients W H t cs box n)) after new-coefficient f
+      ∙ refine-reading W H (levels t) new rise (coefficients W H cs) f

@@ -7,8 +7,10 @@ pub mod SmallLevels
 pub mod SplineWeight
 pub mod SplinePiece
 pub mod SplineCell
+pub mod Along
 pub mod SplineTwoScale
-pub mod TwoScaleSum
+pub mod SlopePiece
+pub mod PieceDerivative
 pub mod Least
 pub mod Greatest
 pub mod Parents
@@ -17,6 +19,7 @@ pub mod AnyLevel
 pub mod Linear
 pub mod Refine
 pub mod PatchReading
+pub mod SurfaceSlopes
 pub mod Bounds
 pub mod SupportLaws
 pub mod Selection
@@ -26,8 +29,11 @@ pub mod Insertion
 pub mod Around
 pub mod Steps
 pub mod RefusalLaws
+pub mod SlopesGiven
 pub mod FileRefusals
 pub mod Refusals
 pub mod Writers
 pub mod Demands
 pub mod Costs
+pub mod Derivatives
+pub mod AppliedSlopes

@@ -80,5 +80,6 @@ module _ (W H L c d : ℕ) (hc : c < functions W (suc L)) (hd : d < functions H 
       → sum2 (functions W L) (functions H L) (λ a b. weight2 a b c d *ℤ f a b)
       ≡ sum2 3 3 (λ i j. pos (stencil c i * stencil d j) *ℤ f (c / 2 + i) (d / 2 + j))
   parents2 f =
-      both-directions (functions W L) (functions H L) 3 3 (λ a. weight a c) (λ b. weight b d) (λ i. stencil c i)
-      (λ j. stencil d j) (λ i. c / 2 + i) (λ j. d / 2 + j) (λ g. parents W L c g hc) (λ g. parents H L d g hd) f
+      both-directions (functions W L) (functions H L) 3 3 (λ a. pos (weight a c)) (λ b. pos (weight b d))
+      (λ i. pos (stencil c i)) (λ j. pos (stencil d j)) (λ i. c / 2 + i) (λ j. d / 2 + j)
+      (λ g. parents W L c g hc) (λ g. parents H L d g hd) f

@@ -6,19 +6,21 @@ use native.Mathlib.Nat.{add-assoc}
 use native.Mathlib.Decide.{ℕ-discrete}
 use native.Mathlib.Omega.{arith}
 use lib.Dec.{lit≤}
-use lib.IntN.{ℤ, pos, _*ℤ_, zero-*ℤ}
-use Rattle.finite.specs.Range.{sum, sum2}
-use Rattle.finite.proofs.Sum.{sum-window, sum-cong, sum2-cong}
+use lib.IntN.{ℤ, pos, _*ℤ_}
+use Rattle.finite.specs.Range.{sum2}
+use Rattle.finite.proofs.Sum.{sum2-cong}
 use Rattle.finite.proofs.Weighted.{weighted-cong, both-directions}
 use Rattle.surface.specs.Sheet.{functions, steps, quarterOf}
 use Rattle.surface.specs.Support.{inRegion}
 use Rattle.surface.specs.Spline.{cellOf, piece, splineAt}
-use Rattle.surface.specs.Truncation.{weight2, reading}
+use Rattle.surface.specs.Truncation.{weight2, activeSum, reading}
 use Rattle.surface.specs.Carry.{carried}
 use Rattle.surface.specs.Patch.{stencil, subdivided, patch, evaluated, patchReading}
-use Rattle.surface.proofs.SplineCell.{cell-inside, cell-step, spline-in, spline-low, spline-far}
+use Rattle.surface.proofs.SplineCell.{cell-inside, cell-step, spline-in}
 use Rattle.surface.proofs.Parents.{parents2}
 use Rattle.surface.proofs.Carried.{factors}
+use Rattle.surface.proofs.Along.{Along, window}
+use Rattle.surface.proofs.SplineTwoScale.{values-along}
 use Rattle.surface.proofs.AnyLevel.{level-reading}
 
 -- a parent with a weight stands in the coarser patch: c is the half plus the entry's number
@@ -50,19 +52,6 @@ subdivided-cong g h p q hg hh e k l hk hl =
 shifted : (c c′ h k : ℕ) → h ≤ 1 → c′ ≡ 2 * c + h → ((c′ + k) % 2 ≡ (c′ % 2 + k) % 2) ×
     ((c′ + k) / 2 ≡ c + (c′ % 2 + k) / 2)
 shifted c c′ h k l e = (omega arith, omega arith)
-
--- of a level's splines along a direction only the four of the point's cell are not 0
-pub spline-window : (n L w : ℕ) → 0 < n → w ≤ 128 * n → L ≤ 3 → (f : ℕ → ℤ)
-    → sum (functions n L) (λ a. pos (splineAt n L a w) *ℤ f a)
-    ≡ sum 4 (λ k. pos (piece k (w - cellOf n L w * steps L) (steps L)) *ℤ f (cellOf n L w + k))
-spline-window n L w p hw hL f =
-    let i = cell-inside n L w p hw hL in
-    sum-window (functions n L) (cellOf n L w) 4 (λ a. pos (splineAt n L a w) *ℤ f a) (omega arith)
-    (λ a l. ap (λ t. pos t *ℤ f a) (spline-low n L a w l) ∙ zero-*ℤ (f a))
-    (λ a l. ap (λ t. pos t *ℤ f a) (spline-far n L a w l) ∙ zero-*ℤ (f a))
-    ∙ sum-cong 4 (λ k. pos (splineAt n L (cellOf n L w + k) w) *ℤ f (cellOf n L w + k))
-    (λ k. pos (piece k (w - cellOf n L w * steps L) (steps L)) *ℤ f (cellOf n L w + k))
-    (λ k l. ap (λ t. pos t *ℤ f (cellOf n L w + k)) (spline-in n L k w))
 
 module _ (W H : ℕ) (lev : ℕ → ℕ → ℕ) (coef : ℕ → ℕ → ℕ → ℤ) (u v : ℕ) (pW : 0 < W) (pH : 0 < H)
     (hu : u ≤ 128 * W) (hv : v ≤ 128 * H) where
@@ -108,22 +97,32 @@ module _ (W H : ℕ) (lev : ℕ → ℕ → ℕ) (coef : ℕ → ℕ → ℕ →
       (coef (suc L) (cu (suc L) + k) (cv (suc L) + l)) t)
       (subdivided-parents L hL (patch-carried L (omega arith)) k l hk hl)
 
-  -- the exact reading is the patch's evaluation, at each level from that of the point's quarter square on
+  -- the active coefficients times their truncated functions are the patch times the functions of the point's cells, at
+  -- each level from that of the point's quarter square on
+  pub patched : (x y : ℕ → ℕ → ℤ) → Along W u x → Along H v y
+      → (L : ℕ) → L ≤ 3 → min (lev (quarterOf W u) (quarterOf H v)) 3 ≤ L
+      → activeSum W H lev coef (λ L a b. x L a *ℤ y L b)
+      ≡ sum2 4 4 (λ k l. x L (cu L + k) *ℤ y L (cv L + l) *ℤ patch W H lev coef u v L k l)
+  patched x y along across L hL h =
+      level-reading W H lev coef u v pW pH hu hv x y along across L hL h
+      ∙ both-directions (functions W L) (functions H L) 4 4 (x L) (y L) (λ k. x L (cu L + k)) (λ l. y L (cv L + l))
+      (λ k. cu L + k) (λ l. cv L + l) (window W u pW hu x along L hL) (window H v pH hv y across L hL)
+      (λ a b. carried W H lev coef L a b)
+      ∙ sum2-cong 4 4 (λ k l. x L (cu L + k) *ℤ y L (cv L + l) *ℤ carried W H lev coef L (cu L + k) (cv L + l))
+      (λ k l. x L (cu L + k) *ℤ y L (cv L + l) *ℤ patch W H lev coef u v L k l)
+      (λ k l hk hl. ap (λ t. x L (cu L + k) *ℤ y L (cv L + l) *ℤ t) (sym (patch-carried L hL k l hk hl)))
+
+  -- so the exact reading is the patch's evaluation
   pub evaluated-reading : (L : ℕ) → L ≤ 3 → min (lev (quarterOf W u) (quarterOf H v)) 3 ≤ L
       → reading W H lev coef u v ≡ evaluated W H lev coef u v L
   evaluated-reading L hL h =
-      let r = u - cu L * steps L in
-      let s = v - cv L * steps L in
-      level-reading W H lev coef u v pW pH hu hv L hL h
-      ∙ both-directions (functions W L) (functions H L) 4 4 (λ a. splineAt W L a u) (λ b. splineAt H L b v)
-      (λ k. piece k r (steps L)) (λ l. piece l s (steps L)) (λ k. cu L + k) (λ l. cv L + l)
-      (λ g. spline-window W L u pW hu hL g) (λ g. spline-window H L v pH hv hL g)
-      (λ a b. carried W H lev coef L a b)
+      patched (λ L a. pos (splineAt W L a u)) (λ L b. pos (splineAt H L b v)) (values-along W u pW hu)
+      (values-along H v pH hv) L hL h
       ∙ sum2-cong 4 4
-      (λ k l. pos (piece k r (steps L) * piece l s (steps L)) *ℤ carried W H lev coef L (cu L + k) (cv L + l))
-      (λ k l. pos (piece k r (steps L) * piece l s (steps L)) *ℤ patch W H lev coef u v L k l)
-      (λ k l hk hl. ap (λ t. pos (piece k r (steps L) * piece l s (steps L)) *ℤ t)
-      (sym (patch-carried L hL k l hk hl)))
+      (λ k l. pos (splineAt W L (cu L + k) u * splineAt H L (cv L + l) v) *ℤ patch W H lev coef u v L k l)
+      (λ k l. pos (piece k (u - cu L * steps L) (steps L) * piece l (v - cv L * steps L) (steps L))
+      *ℤ patch W H lev coef u v L k l)
+      (λ k l hk hl. rw (spline-in W L k u, spline-in H L l v))
 
   -- and so at level 3 everywhere
   pub patch-reading : reading W H lev coef u v ≡ patchReading W H lev coef u v

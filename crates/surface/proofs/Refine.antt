@@ -1,4 +1,5 @@
--- Demand 3, refinement: where the regions rise and the carried values become the coefficients, no reading moves.
+-- Demand 3, refinement: where the regions rise and the carried values become the coefficients, no reading moves, and
+-- no slope does.
 use mathlib.Core.Path.{_≡_, sym, ap, _∙_}
 use Prim.Native.Nat.{ℕ, zero, suc, _*_, _≤_, _<_}
 use native.Mathlib.Nat.{le-trans}
@@ -6,13 +7,12 @@ use native.Mathlib.Decide.{decLe}
 use native.Mathlib.Omega.{arith}
 use lib.Dec.{lit≤}
 use borrow.Author.Tests.{eq-eqb}
-use lib.IntN.{ℤ, pos, _*ℤ_}
+use lib.IntN.{ℤ, _*ℤ_}
 use Rattle.finite.proofs.Sum.{sum2-cong}
 use Rattle.finite.proofs.Weighted.{weighted-cong}
 use Rattle.surface.specs.Sheet.{functions, quarters}
 use Rattle.surface.specs.Support.{leastUnder}
-use Rattle.surface.specs.Spline.{splineAt}
-use Rattle.surface.specs.Truncation.{weight, reading}
+use Rattle.surface.specs.Truncation.{weight, activeSum}
 use Rattle.surface.specs.Carry.{carried, carriedOver}
 use Rattle.surface.proofs.Least.{leastUnder-parent, leastUnder-raise, leastUnder-le-3}
 use Rattle.surface.proofs.Carried.{factors, carried-own, carried-sum, carried-reading}
@@ -47,12 +47,10 @@ module _ (W H : ℕ) (old new : ℕ → ℕ → ℕ) (rise : (q r : ℕ) → q <
           ih c d (le-trans (leastUnder-parent W H new L (omega arith) c d a b (f .0) (f .1)) k1))
           ∙ sym (carried-sum W H old coef L a b k2)
 
-  pub refine-reading : (u v : ℕ) → reading W H new after u v ≡ reading W H old coef u v
-  refine-reading u v =
-      carried-reading W H new after u v
-      ∙ sum2-cong (functions W 3) (functions H 3)
-      (λ a b. pos (splineAt W 3 a u * splineAt H 3 b v) *ℤ carried W H new after 3 a b)
-      (λ a b. pos (splineAt W 3 a u * splineAt H 3 b v) *ℤ carried W H old coef 3 a b)
-      (λ a b la lb. ap (λ t. pos (splineAt W 3 a u * splineAt H 3 b v) *ℤ t)
-      (carried-same 3 (lit≤ tt) a b (leastUnder-le-3 W H new 3 a b)))
-      ∙ sym (carried-reading W H old coef u v)
+  pub refine-reading : (f : ℕ → ℕ → ℕ → ℤ) → activeSum W H new after f ≡ activeSum W H old coef f
+  refine-reading f =
+      carried-reading W H new after f
+      ∙ sum2-cong (functions W 3) (functions H 3) (λ a b. f 3 a b *ℤ carried W H new after 3 a b)
+      (λ a b. f 3 a b *ℤ carried W H old coef 3 a b)
+      (λ a b la lb. ap (λ t. f 3 a b *ℤ t) (carried-same 3 (lit≤ tt) a b (leastUnder-le-3 W H new 3 a b)))
+      ∙ sym (carried-reading W H old coef f)

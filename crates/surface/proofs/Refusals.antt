@@ -4,11 +4,10 @@ use mathlib.Core.Path.{_≡_, refl, sym, ap, _∙_, subst}
 use mathlib.Core.Logic.{_↔_}
 use mathlib.Core.Bool.{not, _&&_, cond}
 use mathlib.Core.List.{List, [], _∷_}
-use Prim.Native.Nat.{ℕ}
+use Prim.Native.Nat.{ℕ, _^_}
 use native.Mathlib.Nat.{mul-comm}
 use native.Mathlib.Omega.{arith}
 use lib.IntN.{ℤ, natAbs}
-use lib.Ieee.{Float}
 use lib.Dec.{leb, ltb, eqb}
 use borrow.Author.Tests.{eqb-true}
 use lib.ListN.{length, set, length-set}
@@ -16,10 +15,12 @@ use Rattle.finite.specs.Range.{grid}
 use Rattle.finite.proofs.Table.{length-grid}
 use Rattle.surface.specs.Sheet.{Box, goodSide, functions, quarters}
 use Rattle.surface.specs.Support.{active}
+use Rattle.surface.specs.Truncation.{D}
 use Rattle.surface.specs.Carry.{carriedOver}
 use Rattle.surface.specs.Table.{cause, _orElse_, levels, places, place}
 use Rattle.surface.specs.Table.{coefficients, limit, sliceOf, regionCause, tableCause}
-use Rattle.surface.specs.FloatReading.{FloatMeets}
+use Rattle.surface.specs.FloatReading.{Near, Meets}
+use Rattle.surface.specs.Slopes.{NearSlopes, slopesOutcome}
 use Rattle.surface.specs.Calls.{Answer, refused, gives, written, lengthCause}
 use Rattle.surface.specs.Calls.{outputsCause, freshOutcome, freshCoefficients}
 use Rattle.surface.specs.Calls.{newLevels, newTree, newCoefficients, refinementCause}
@@ -31,6 +32,7 @@ use Rattle.surface.proofs.TableLaws.{slice-length}
 use Rattle.surface.proofs.Causes.{orElse-assoc, orElse-none, cause-none}
 use Rattle.surface.proofs.RefusalLaws.{one-or, one-cause, one-region, one-table, one-reading, sent}
 use Rattle.surface.proofs.RefusalLaws.{slice-or-nothing, table-or-nothing}
+use Rattle.surface.proofs.SlopesGiven.{slopes-given}
 use Rattle.surface.proofs.FileRefusals.{file-refusals, bench-refusals, save-refusals}
 
 -- ---- the calls
@@ -110,16 +112,16 @@ exact-refusals W H t cs u v =
     let js : List ℕ = 1 ∷ 2 ∷ 3 ∷ 4 ∷ 5 ∷ 6 ∷ [] in
     sent (readingCause W H t cs u v) _ js (one-reading js refl refl refl refl refl refl W H t cs u v)
 
--- an f64 reading is refused exactly where the exact one is, with its number
-pub float-refused : (o : Answer ℤ) (given : Answer Float) → FloatMeets o given → (n : ℕ)
-    → (given ≡ refused n) ↔ (o ≡ refused n)
-float-refused (refused m) (refused k) e n = (
+-- an answer that meets an exact outcome is refused exactly where that is, with its number
+pub meets-refused : {A B : Type 0} (near : A → B → Type 0) (o : Answer A) (given : Answer B) → Meets near o given
+    → (n : ℕ) → (given ≡ refused n) ↔ (o ≡ refused n)
+meets-refused near (refused m) (refused k) e n = (
   λ h. let s : k ≡ n = cc in ap refused (sym e ∙ s),
   λ h. let s : m ≡ n = cc in ap refused (e ∙ s),
 )
-float-refused (refused m) (gives x) e n = absurd e
-float-refused (gives y) (refused k) e n = absurd e
-float-refused (gives y) (gives x) e n = (
+meets-refused near (refused m) (gives x) e n = absurd e
+meets-refused near (gives y) (refused k) e n = absurd e
+meets-refused near (gives y) (gives x) e n = (
   λ h. absurd (let z : _≡_ {A = ℕ} 0 1 = cc in omega arith),
   λ h. absurd (let z : _≡_ {A = ℕ} 0 1 = cc in omega arith),
 )
@@ -143,8 +145,14 @@ refusals =
           (one-or (regionCause W H t) (cause 7 b7) js (one-region js refl refl W H t) (one-cause 7 b7 js refl));
       exact = exact-refusals;
       watts = λ W H t cs u v given m.
-          let same = float-refused (exactOutcome W H t cs u v) given m in
+          let same = meets-refused (Near (2 ^ 30) D) (exactOutcome W H t cs u v) given m in
           (λ n e. exact-refusals W H t cs u v n (same n .0 e), same);
+      slopes = λ W H t cs u v given m.
+          let same = meets-refused NearSlopes (slopesOutcome W H t cs u v) given m in
+          let exactly = slopes-given .refusal W H t cs u v in (
+            λ n e. exact-refusals W H t cs u v n (exactly n .0 (same n .0 e)),
+            λ n. (λ e. exactly n .0 (same n .0 e), λ e. same n .1 (exactly n .1 e)),
+          );
       display = λ W H t cs u v.
           let js : List ℕ = 1 ∷ 2 ∷ 3 ∷ 4 ∷ 5 ∷ 6 ∷ [] in
           sent (readingCause W H t cs u v) _ js (one-reading js refl refl refl refl refl refl W H t cs u v);

@@ -6,7 +6,7 @@ use native.Mathlib.Omega.{arith}
 use Rattle.surface.specs.Spline.{piece}
 
 -- powers as products, which omega multiplies out
-square : (x : ℕ) → x ^ 2 ≡ x * x
+pub square : (x : ℕ) → x ^ 2 ≡ x * x
 square x = rw (pow-suc x 1, pow-suc x 0, pow-zero, one-mul)
 
 pub cube : (x : ℕ) → x ^ 3 ≡ x * x * x

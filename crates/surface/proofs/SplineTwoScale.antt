@@ -1,145 +1,101 @@
 -- The two-scale relation of the splines at a point, and the support of a spline that is not zero there.
-use mathlib.Core.Bool.{true, _&&_}
-use mathlib.Core.Path.{_≡_, sym, ap, ap₂, fun-ext, _∙_}
-use Prim.Native.Nat.{ℕ, zero, suc, _+_, _-_, _*_, _≤_, _<_}
-use native.Mathlib.Decide.{decLe}
-use native.Mathlib.Nat.{add-mul, add-zero}
+use mathlib.Core.Path.{_≡_, refl, ap, subst, fun-ext}
+use mathlib.Core.Logic.{_⊎_, inl, inr}
+use mathlib.Core.Bool.{Bool, true, false, cond}
+use Prim.Native.Nat.{ℕ, zero, suc, _+_, _-_, _*_, _^_, _≤_, _<_}
+use native.Mathlib.Nat.{sub-self, sub-zero}
 use native.Mathlib.Omega.{arith}
-use borrow.Author.Tests.{lt-ltb}
-use Rattle.surface.specs.Sheet.{steps}
+use lib.Dec.{leb}
+use lib.IntN.{ℤ, pos, natAbs, _*ℤ_}
+use Rattle.finite.specs.Range.{sum}
+use Rattle.finite.proofs.Four.{each}
+use Rattle.surface.specs.Sheet.{functions, steps}
 use Rattle.surface.specs.Spline.{cellOf, piece, splineAt}
 use Rattle.surface.specs.Support.{holdsAlong}
 use Rattle.surface.specs.Truncation.{weight}
-use Rattle.surface.proofs.SplineCell.{cell-point, cell-step, spline-low}
-use Rattle.surface.proofs.SplinePiece.{pieces, piece-0, piece-3, piece-far}
-use Rattle.surface.proofs.SplineWeight.{eighths-pos, eighths-step, weight-after, weight-before, weight-shift}
+use Rattle.surface.proofs.SplinePiece.{pieces, piece-far, square, cube}
+use Rattle.surface.proofs.SplineWeight.{eighths-step}
+use Rattle.surface.proofs.Along.{Along, Pieces, pieceAt, pieces-along}
 
--- four weighted values
-abbrev blend : (ℕ → ℕ) → (ℕ → ℕ) → ℕ
-blend w x = w 0 * x 0 + w 1 * x 1 + w 2 * x 2 + w 3 * x 3
-
-blend-none : (w x : ℕ → ℕ) → ((j : ℕ) → j < 4 → w j ≡ 0) → blend w x ≡ 0
-blend-none w x z =
-    rw (z 0 (omega arith), z 1 (omega arith), z 2 (omega arith), z 3 (omega arith)) (omega arith)
-
--- a parent that starts after the cell has none of the cell's four
-none-later : (h k r s : ℕ) (x : ℕ → ℕ) → h ≤ 1 → 4 ≤ k → piece k r s ≡ blend (λ j. weight k (h + j)) x
-none-later h k r s x l m =
-    piece-far k r s m ∙ sym (blend-none (λ j. weight k (h + j)) x (λ j b. weight-before k (h + j) (omega arith)))
+abbrev pub value : ℕ → ℕ → ℕ → ℤ
+value k r s = pos (piece k r s)
 
 -- a piece of a cell on its near half, where the finer cell has the same start
-near-half : (k r q : ℕ) → piece k r (r + (r + 2 * q)) ≡ blend (λ j. weight k j) (λ j. piece j r (r + q))
-unfolding weight
-near-half zero r q = simp pieces (omega arith)
-near-half (suc zero) r q = simp pieces (omega arith)
-near-half (suc (suc zero)) r q = simp pieces (omega arith)
-near-half (suc (suc (suc zero))) r q = simp pieces (omega arith)
-near-half (suc (suc (suc (suc k)))) r q = none-later 0 _ r _ (λ j. piece j r (r + q)) (omega arith) (omega arith)
+near-half : (k r q : ℕ) → k < 4
+    → value k r (r + (r + 2 * q)) ≡ sum 4 (λ j. pos (weight k j) *ℤ value j r (r + q))
+unfolding weight sum
+near-half k r q =
+    each (λ k. value k r (r + (r + 2 * q)) ≡ sum 4 (λ j. pos (weight k j) *ℤ value j r (r + q)))
+    (ap pos (simp pieces (omega arith)))
+    (ap pos (simp pieces (omega arith)))
+    (ap pos (simp pieces (omega arith)))
+    (ap pos (simp pieces (omega arith)))
+    k
 
 -- and on its far half, where it starts r + q later
-far-half : (k r q : ℕ) → piece k (r + q + r) (r + q + r + q) ≡ blend (λ j. weight k (1 + j)) (λ j. piece j r (r + q))
-unfolding weight
-far-half zero r q = simp pieces (omega arith)
-far-half (suc zero) r q = simp pieces (omega arith)
-far-half (suc (suc zero)) r q = simp pieces (omega arith)
-far-half (suc (suc (suc zero))) r q = simp pieces (omega arith)
-far-half (suc (suc (suc (suc k)))) r q = none-later 1 _ _ _ (λ j. piece j r (r + q)) (omega arith) (omega arith)
+far-half : (k r q : ℕ) → k < 4
+    → value k (r + q + r) (r + q + r + q) ≡ sum 4 (λ j. pos (weight k (1 + j)) *ℤ value j r (r + q))
+unfolding weight sum
+far-half k r q =
+    each (λ k. value k (r + q + r) (r + q + r + q) ≡ sum 4 (λ j. pos (weight k (1 + j)) *ℤ value j r (r + q)))
+    (ap pos (simp pieces (omega arith)))
+    (ap pos (simp pieces (omega arith)))
+    (ap pos (simp pieces (omega arith)))
+    (ap pos (simp pieces (omega arith)))
+    k
 
--- both: the finer cell, of d steps, is the h-th half
-half :
-    (h k d r q r₀ q₀ : ℕ) → h ≤ 1 → d ≡ r + q → r₀ ≡ h * d + r → r₀ + q₀ ≡ 2 * d
-    → piece k r₀ (r₀ + q₀) ≡ blend (λ j. weight k (h + j)) (λ j. piece j r (r + q))
-half zero k d r q r₀ q₀ l s e f =
-    let e₁ : r₀ ≡ r = omega arith in
-    let e₂ : q₀ ≡ r + 2 * q = omega arith in
-    ap₂ (λ x y. piece k x (x + y)) e₁ e₂ ∙ near-half k r q
-half (suc zero) k d r q r₀ q₀ l s e f =
-    let e₁ : r₀ ≡ r + q + r = omega arith in
-    let e₂ : q₀ ≡ q = omega arith in
-    ap₂ (λ x y. piece k x (x + y)) e₁ e₂ ∙ far-half k r q
-half (suc (suc h)) k d r q r₀ q₀ l s e f = absurd (omega arith)
+-- at the end of a cell a spline has the value that it has at the start of the next
+at-knot : (k s : ℕ) → value (suc k) s s ≡ value k 0 s
+unfolding piece
+at-knot zero s = ap pos (simp (cube, square, sub-zero) (omega arith))
+at-knot (suc zero) s = ap pos (simp (cube, square) (omega arith))
+at-knot (suc (suc zero)) s = ap pos (simp (cube, square) (omega arith))
+at-knot (suc (suc (suc zero))) s = refl
+at-knot (suc (suc (suc (suc k)))) s = refl
 
--- how far a point is into the cell c, of D steps, from how far it is into its half c′, of d steps
-offset :
-    (c c′ h D d r r₀ u : ℕ) → c′ ≡ 2 * c + h → D ≡ 2 * d → u ≡ c * D + r₀ → u ≡ c′ * d + r → r₀ ≡ h * d + r
-offset c c′ h D d r r₀ u e f p q = omega (arith, ap (λ x. x * d) e, ap (λ x. c * x) f)
+pub values : Pieces value
+unfolding piece
+values =
+    record {
+      none = λ k r s h. ap pos (piece-far k r s h);
+      near-half = near-half;
+      far-half = far-half;
+      first = λ s. refl;
+      last = λ s. ap pos (simp (cube, sub-self));
+      at-knot = at-knot;
+    }
 
-window :
-    (n L a u : ℕ) → 0 < n → L < 3 → u ≤ 128 * n
-    → splineAt n L a u
-    ≡ blend (λ j. weight a (cellOf n (suc L) u + j)) (λ j. splineAt n (suc L) (cellOf n (suc L) u + j) u)
-window n L a u p l b = go (decLe c a) (cell-step n L u p l b)
+-- the splines are such pieces
+pub is-piece : (n L a u : ℕ) → pieceAt value n L a u ≡ pos (splineAt n L a u)
+unfolding splineAt
+is-piece n L a u = go (leb (cellOf n L u) a) (piece (a - cellOf n L u) (u - cellOf n L u * steps L) (steps L))
   where
-    c : ℕ
-    c = cellOf n L u
+    go : (t : Bool) (x : ℕ) → cond t (pos x) (pos 0) ≡ pos (cond t x 0)
+    go true x = refl
+    go false x = refl
 
-    c′ : ℕ
-    c′ = cellOf n (suc L) u
+module _ (n u : ℕ) (p : 0 < n) (h : u ≤ 128 * n) where
+  pub values-along : Along n u (λ L a. pos (splineAt n L a u))
+  values-along =
+      subst (Along n u) (fun-ext (λ L. fun-ext (λ a. is-piece n L a u))) (pieces-along value values n u p h)
 
-    w : ℕ → ℕ
-    w j = weight a (c′ + j)
-
-    x : ℕ → ℕ
-    x j = splineAt n (suc L) (c′ + j) u
-
-    twice : steps L ≡ 2 * steps (suc L)
-    twice = omega (arith, eighths-step L l)
-
-    go : Dec (c ≤ a) → (h : ℕ) × (h ≤ 1) × (c′ ≡ 2 * c + h) → splineAt n L a u ≡ blend w x
-    go (no g) (h, m, e) =
-        spline-low n L a u (omega arith) ∙ sym (blend-none w x (λ j i. weight-after a (c′ + j) (omega arith)))
-    go (yes g) (h, m, e) =
-        let k = a - c in
-        let at : a ≡ c + k = omega arith in
-        let record { r = r; q = q; side = side; point = point; value = value } = cell-point n (suc L) u p b l in
-        let record { r = r₀; q = q₀; side = s₀; point = p₀; value = v₀ } = cell-point n L u p b (omega arith) in
-        let start = offset c c′ h (steps L) (steps (suc L)) r r₀ u e twice p₀ point in
-        let weights : (j : ℕ) → w j ≡ weight k (h + j) = λ j. weight-shift c k (h + j) a (c′ + j) at (omega arith) in
-        ap (λ y. splineAt n L y u) at ∙ v₀ k
-        ∙ half h k (steps (suc L)) r q r₀ q₀ m side start (sym s₀ ∙ twice)
-        ∙ sym (ap₂ blend (fun-ext weights) (fun-ext value))
-
--- the two-scale relation, by the four splines of the finer cell; the others are 0 there
-pub two-scale-window :
-    (n L a u : ℕ) → 0 < n → L < 3 → u ≤ 128 * n
-    → let c = cellOf n (suc L) u in
-    splineAt n L a u
-    ≡ weight a c * splineAt n (suc L) c u
-    + weight a (c + 1) * splineAt n (suc L) (c + 1) u
-    + weight a (c + 2) * splineAt n (suc L) (c + 2) u
-    + weight a (c + 3) * splineAt n (suc L) (c + 3) u
-two-scale-window n L a u p l b = rw (add-zero (cellOf n (suc L) u)) at (window n L a u p l b)
-
--- a piece that is not zero has its point inside its function's support
-piece-support :
-    (k s r q : ℕ) → 0 < s → s ≡ r + q → 0 < piece k r (r + q) → (k * s < r + 3 * s) × (r < (k + 1) * s)
-piece-support zero s r zero p e h = absurd (omega (arith, piece-0 r 0))
-piece-support zero s r (suc q) p e h = omega arith
-piece-support (suc zero) s r q p e h = omega arith
-piece-support (suc (suc zero)) s r q p e h = omega arith
-piece-support (suc (suc (suc zero))) s zero q p e h = absurd (omega (arith, piece-3 0 q))
-piece-support (suc (suc (suc zero))) s (suc r) q p e h = omega arith
-piece-support (suc (suc (suc (suc k)))) s r q p e h =
-    absurd (omega (arith, piece-far (suc (suc (suc (suc k)))) r (r + q) (omega arith)))
+-- the two-scale relation as document 01 states it: over all functions of the finer level
+pub two-scale-sum : (n L a u : ℕ) → 0 < n → L < 3 → u ≤ 128 * n
+    → pos (splineAt n L a u) ≡ sum (functions n (suc L)) (λ c. pos (weight a c * splineAt n (suc L) c u))
+two-scale-sum n L a u p l h = values-along n u p h .two-scale L a l
 
 -- a spline that is not zero at u has u strictly inside its support before the cut
 pub spline-holds :
     (n L a u : ℕ) → 0 < n → L ≤ 3 → u ≤ 128 * n → 0 < splineAt n L a u → holdsAlong L a u ≡ true
-spline-holds n L a u p l b h = go (decLe c a)
+spline-holds n L a u p l b h = go (values-along n u p b .inside L a l)
   where
-    c : ℕ
-    c = cellOf n L u
+    go : (pos (splineAt n L a u) ≡ pos 0) ⊎ (holdsAlong L a u ≡ true) → holdsAlong L a u ≡ true
+    go (inl e) = absurd (let none = ap natAbs e in omega arith)
+    go (inr t) = t
 
-    s : ℕ
-    s = steps L
-
-    go : Dec (c ≤ a) → holdsAlong L a u ≡ true
-    go (no g) = absurd (omega (arith, spline-low n L a u (omega arith)))
-    go (yes g) =
-        let k = a - c in
-        let at : a ≡ c + k = omega arith in
-        let record { r = r; q = q; side = side; point = point; value = value } = cell-point n L u p b l in
-        let pos : 0 < piece k r (r + q) = rw (ap (λ y. splineAt n L y u) at ∙ value k) at h in
-        let within = piece-support k s r q (omega (arith, eighths-pos L)) side pos in
-        let whole : a * s ≡ c * s + k * s = ap (λ y. y * s) at ∙ add-mul c k s in
-        ap₂ _&&_ (lt-ltb (a * s) (u + 3 * s) (omega (arith, point))) (lt-ltb u ((a + 1) * s) (omega (arith, point)))
+-- "over 8": a level's whole is eight of the next level's
+pub whole-step : (L : ℕ) → L < 3 → 6 * steps L ^ 3 ≡ 8 * (6 * steps (suc L) ^ 3)
+whole-step L l =
+    let x = steps (suc L) in
+    let e : steps L ≡ 2 * x = omega (arith, eighths-step L l) in
+    rw (e, cube (2 * x), cube x) (omega arith)

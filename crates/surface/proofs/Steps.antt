@@ -1,4 +1,4 @@
--- A list of steps, accepted and refused ones: the table stays acceptable and its readings stay.
+-- A list of steps, accepted and refused ones: the table stays acceptable and its readings stay, and so do its slopes.
 use mathlib.Core.Path.{_≡_, refl, sym, ap, _∙_, subst}
 use mathlib.Core.Bool.{not, _&&_}
 use mathlib.Core.List.{List, [], _∷_}
@@ -10,7 +10,7 @@ use lib.Seq.{take-append-seam}
 use borrow.Author.Tests.{leb-true}
 use Rattle.finite.proofs.Tests.{both}
 use Rattle.surface.specs.Sheet.{Box, quarters}
-use Rattle.surface.specs.Table.{cause, _orElse_, tableCause, Acceptable, tableReading}
+use Rattle.surface.specs.Table.{cause, _orElse_, tableCause, Acceptable, tableSum}
 use Rattle.surface.specs.Calls.{refused, answer, afterwards, put, insertCause, insertOutcome, boxCause}
 use Rattle.surface.specs.Calls.{outputsCause, newTree, newCoefficients, refinementCause}
 use Rattle.surface.specs.Demands.{Insertion, Contents, left, outcomeOf, inserted, Step}
@@ -67,12 +67,12 @@ inserted-cases W H c i P same new =
 step-keeps : (W H : ℕ) (c : Contents) (s : Step) → Acceptable W H (c .tree) (c .numbers)
     → let d = afterStep W H c s in
     Acceptable W H (d .tree) (d .numbers)
-    × ((u v : ℕ) → tableReading W H (d .tree) (d .numbers) u v ≡ tableReading W H (c .tree) (c .numbers) u v)
+    × ((f : ℕ → ℕ → ℕ → ℤ) → tableSum W H (d .tree) (d .numbers) f ≡ tableSum W H (c .tree) (c .numbers) f)
 step-keeps W H c (insertion i) acc =
     inserted-cases W H c i
     (λ d. Acceptable W H (d .tree) (d .numbers)
-    × ((u v : ℕ) → tableReading W H (d .tree) (d .numbers) u v ≡ tableReading W H (c .tree) (c .numbers) u v))
-    (λ _ _. (acc, λ u v. refl))
+    × ((f : ℕ → ℕ → ℕ → ℤ) → tableSum W H (d .tree) (d .numbers) f ≡ tableSum W H (c .tree) (c .numbers) f))
+    (λ _ _. (acc, λ f. refl))
     (λ e. let a = accepted W H (c .tree) (c .numbers) (i .box) (i .level) e in
     let s = sound W H (c .tree) (c .numbers) acc in (
       acceptable W H _ _ (insertion-sound W H (c .tree) (c .numbers) s (i .box) (i .level) (a .3) (a .1) (a .2)),
@@ -81,12 +81,11 @@ step-keeps W H c (insertion i) acc =
 
 pub all-keep : (W H : ℕ) (ss : List Step) (c : Contents) → Acceptable W H (c .tree) (c .numbers)
     → Acceptable W H (afterAll W H c ss .tree) (afterAll W H c ss .numbers)
-    × ((u v : ℕ)
-    → tableReading W H (afterAll W H c ss .tree) (afterAll W H c ss .numbers) u v ≡ tableReading W H (c .tree)
-    (c .numbers) u v)
+    × ((f : ℕ → ℕ → ℕ → ℤ)
+    → tableSum W H (afterAll W H c ss .tree) (afterAll W H c ss .numbers) f ≡ tableSum W H (c .tree) (c .numbers) f)
 unfolding afterAll
-all-keep W H [] c acc = (acc, λ u v. refl)
+all-keep W H [] c acc = (acc, λ f. refl)
 all-keep W H (s ∷ ss) c acc =
     let k = step-keeps W H c s acc in
     let m = all-keep W H ss (afterStep W H c s) (k .0) in
-    (m .0, λ u v. m .1 u v ∙ k .1 u v)
+    (m .0, λ f. m .1 f ∙ k .1 f)

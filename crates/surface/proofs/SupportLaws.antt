@@ -13,11 +13,10 @@ use Rattle.finite.proofs.Tests.{and-intro, lts-true, lts-intro}
 use Rattle.surface.specs.Sheet.{functions, steps}
 use Rattle.surface.specs.Spline.{cellOf, piece, splineAt}
 use Rattle.surface.specs.Support.{lowEnd, highEnd, holdsAlong, holds, inRegion}
-use Rattle.surface.specs.Truncation.{weight, weight2, truncated}
+use Rattle.surface.specs.Truncation.{weight, weight2, truncation, truncated}
 use Rattle.surface.proofs.SplinePiece.{piece-0, piece-1, piece-2, piece-3}
 use Rattle.surface.proofs.SplineCell.{cell-point}
-use Rattle.surface.proofs.SplineTwoScale.{spline-holds}
-use Rattle.surface.proofs.TwoScaleSum.{two-scale-sum}
+use Rattle.surface.proofs.SplineTwoScale.{two-scale-sum, spline-holds}
 
 -- ---- where a spline is not zero
 
@@ -104,7 +103,7 @@ module _ (W H : ℕ) (lev : ℕ → ℕ → ℕ) (u v : ℕ) (pW : 0 < W) (pH : 
       → ((M c d : ℕ) → L < M → M ≤ 3 → c < functions W M → d < functions H M → holds M c d u v ≡ true
       → inRegion W H lev M c d ≡ false)
       → truncated W H lev u v n L a b ≡ pos (splineAt W L a u * splineAt H L b v)
-  unfolding truncated
+  unfolding truncation
   untruncated zero L a b e h = refl
   untruncated (suc n) L a b e h =
       sum2-cong (functions W M) (functions H M)

@@ -1,5 +1,5 @@
 -- Document 01, "Calls and what they decline": the whole outcome of each call on every input, as the answer and what
--- each lent buffer then holds. File reading is in TableFile and BenchLoading, saving in Saving.
+-- each lent buffer then holds. File reading is in TableFile and BenchLoading, saving in Saving, the slopes in Slopes.
 use mathlib.Core.Path.{_≡_}
 use mathlib.Core.Bool.{Bool, not, _&&_, cond}
 use mathlib.Core.List.{List, [], _∷_, _++_}

@@ -24,6 +24,7 @@ use Rattle.surface.specs.Table.{Acceptable, tableReading}
 use Rattle.surface.specs.Calls.{Answer, refused, gives, Written, Done, freshOutcome, insertOutcome, setOutcome}
 use Rattle.surface.specs.Calls.{activityOutcome, leastOutcome, exactOutcome, displayOutcome, costOutcome}
 use Rattle.surface.specs.FloatReading.{FloatMeets}
+use Rattle.surface.specs.Slopes.{FloatSlopes, slopesOutcome, SlopesMeet}
 use Rattle.surface.specs.Note.{Note, noPart}
 use Rattle.surface.specs.TableFile.{fileOutcome}
 use Rattle.surface.specs.BenchLoading.{Benched, benchOutcome}
@@ -70,9 +71,14 @@ pub record Refusals : Type 0 where
   pub least : (W H : ℕ) (t : List ℕ) (box : Box) → RefusesWith (1 ∷ 2 ∷ 7 ∷ []) (leastOutcome W H t box)
   pub exact : (W H : ℕ) (t : List ℕ) (cs : List ℤ) (u v : ℕ)
       → RefusesWith (1 ∷ 2 ∷ 3 ∷ 4 ∷ 5 ∷ 6 ∷ []) (exactOutcome W H t cs u v)
-  -- The f64 reading is any answer that meets its promise: refused exactly where the exact one is, with its number.
+  -- The f64 reading is any answer that meets its promise: refused exactly where the exact one is, with its number. So
+  -- are the watts and slopes.
   pub watts : (W H : ℕ) (t : List ℕ) (cs : List ℤ) (u v : ℕ) (given : Answer Float)
       → FloatMeets (exactOutcome W H t cs u v) given
+      → RefusesWith (1 ∷ 2 ∷ 3 ∷ 4 ∷ 5 ∷ 6 ∷ []) given
+      × ((n : ℕ) → (given ≡ refused n) ↔ (exactOutcome W H t cs u v ≡ refused n))
+  pub slopes : (W H : ℕ) (t : List ℕ) (cs : List ℤ) (u v : ℕ) (given : Answer FloatSlopes)
+      → SlopesMeet (slopesOutcome W H t cs u v) given
       → RefusesWith (1 ∷ 2 ∷ 3 ∷ 4 ∷ 5 ∷ 6 ∷ []) given
       × ((n : ℕ) → (given ≡ refused n) ↔ (exactOutcome W H t cs u v ≡ refused n))
   pub display : (W H : ℕ) (t : List ℕ) (cs : List ℤ) (u v : ℕ)

@@ -20,10 +20,14 @@ Near b d n nan = ⊥
 Near b d n (inf s) = ⊥
 Near b d n (fin s m e) = natAbs (signed s (m * up e * d) -ℤ n *ℤ pos (down e)) * b ≤ d * down e
 
--- "the answer is either watts as an f64 or a refusal number": the f64 reading that goes with an exact outcome has the
--- same refusal, or lies "within 2^-30 watt of it".
+-- An answer that goes with an exact outcome: the same refusal, or a result that is near the exact one.
+abbrev pub Meets : {A B : Type 0} → (A → B → Type 0) → Answer A → Answer B → Type 0
+Meets near (refused n) (refused m) = m ≡ n
+Meets near (refused n) (gives x) = ⊥
+Meets near (gives a) (refused m) = ⊥
+Meets near (gives a) (gives x) = near a x
+
+-- "the answer is either watts as an f64 or a refusal number": the f64 reading that goes with an exact outcome lies
+-- "within 2^-30 watt of it".
 abbrev pub FloatMeets : Answer ℤ → Answer Float → Type 0
-FloatMeets (refused n) (refused m) = m ≡ n
-FloatMeets (refused n) (gives x) = ⊥
-FloatMeets (gives n) (refused m) = ⊥
-FloatMeets (gives n) (gives x) = Near (2 ^ 30) D n x
+FloatMeets = Meets (Near (2 ^ 30) D)

@@ -8,6 +8,7 @@ pub mod Patch
 pub mod Table
 pub mod Calls
 pub mod FloatReading
+pub mod Slopes
 pub mod Fields
 pub mod Note
 pub mod TableFile
@@ -15,3 +16,4 @@ pub mod BenchLoading
 pub mod Saving
 pub mod Demands
 pub mod Costs
+pub mod Derivatives

@@ -11,7 +11,7 @@ use Rattle.finite.specs.Range.{every, every2, grid}
 use Rattle.surface.specs.Sheet.{goodSide, functions}
 use Rattle.surface.specs.Quadtree.{Quadtree, leaf, Parsed, none, found, parse, wellFormed, levelAt}
 use Rattle.surface.specs.Support.{active}
-use Rattle.surface.specs.Truncation.{reading}
+use Rattle.surface.specs.Truncation.{activeSum, reading}
 
 -- ---- refusal numbers
 
@@ -110,6 +110,10 @@ tableCause W H t cs =
 -- "it is acceptable when none of 1 to 5 applies to it"
 abbrev pub Acceptable : ℕ → ℕ → List ℕ → List ℤ → Type 0
 Acceptable W H t cs = tableCause W H t cs ≡ 0
+
+-- What a table's active coefficients times their truncated functions add up to.
+abbrev pub tableSum : ℕ → ℕ → List ℕ → List ℤ → (ℕ → ℕ → ℕ → ℤ) → ℤ
+tableSum W H t cs f = activeSum W H (levels t) (coefficients W H cs) f
 
 -- The exact reading of a table at a point, as a numerator over D.
 abbrev pub tableReading : ℕ → ℕ → List ℕ → List ℤ → ℕ → ℕ → ℤ

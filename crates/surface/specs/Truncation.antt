@@ -22,25 +22,38 @@ weight a c = cond (leb (2 * a) (c + 3)) (getD (1 ∷ 4 ∷ 6 ∷ 4 ∷ 1 ∷ [])
 abbrev pub weight2 : ℕ → ℕ → ℕ → ℕ → ℤ
 weight2 a b c d = pos (weight a c * weight b d)
 
--- The truncated function (a, b) of level L at (u, v), with n levels finer than L. "Truncation drops those terms whose
--- cut support lies in the region of level L+1, and is repeated for every finer level." "Terms that vanish on the sheet
--- drop out": the sum is over the functions of level L+1.
-unfoldable pub truncated : ℕ → ℕ → (ℕ → ℕ → ℕ) → ℕ → ℕ → ℕ → ℕ → ℕ → ℕ → ℤ
-truncated W H lev u v zero L a b = pos (splineAt W L a u * splineAt H L b v)
-truncated W H lev u v (suc n) L a b =
-    sum2 (functions W (suc L)) (functions H (suc L)) λ c d.
-    weight2 a b c d *ℤ cond (inRegion W H lev (suc L) c d) (pos 0) (truncated W H lev u v n (suc L) c d)
+-- A function (a, b) of level L at the point (u, v), before truncation: "the product of two uniform cubic B-splines".
+abbrev pub valueAt : ℕ → ℕ → ℕ → ℕ → ℕ → ℕ → ℕ → ℤ
+valueAt W H u v L a b = pos (splineAt W L a u * splineAt H L b v)
 
--- The part of the reading that level L gives: its active coefficients times their truncated functions.
-abbrev pub levelReading : ℕ → ℕ → (ℕ → ℕ → ℕ) → (ℕ → ℕ → ℕ → ℤ) → ℕ → ℕ → ℕ → ℤ
-levelReading W H lev coef u v L =
+-- The function (a, b) of level L truncated, with n levels finer than L, where f has the functions before truncation:
+-- their values at a point, or for a slope their derivatives there. "Truncation drops those terms whose cut support lies
+-- in the region of level L+1, and is repeated for every finer level." "Terms that vanish on the sheet drop out": the
+-- sum is over the functions of level L+1.
+unfoldable pub truncation : ℕ → ℕ → (ℕ → ℕ → ℕ) → (ℕ → ℕ → ℕ → ℤ) → ℕ → ℕ → ℕ → ℕ → ℤ
+truncation W H lev f zero L a b = f L a b
+truncation W H lev f (suc n) L a b =
+    sum2 (functions W (suc L)) (functions H (suc L)) λ c d.
+    weight2 a b c d *ℤ cond (inRegion W H lev (suc L) c d) (pos 0) (truncation W H lev f n (suc L) c d)
+
+-- The truncated function (a, b) of level L at (u, v).
+abbrev pub truncated : ℕ → ℕ → (ℕ → ℕ → ℕ) → ℕ → ℕ → ℕ → ℕ → ℕ → ℕ → ℤ
+truncated W H lev u v n L a b = truncation W H lev (valueAt W H u v) n L a b
+
+-- Level L's active coefficients times their truncated functions.
+abbrev pub levelSum : ℕ → ℕ → (ℕ → ℕ → ℕ) → (ℕ → ℕ → ℕ → ℤ) → (ℕ → ℕ → ℕ → ℤ) → ℕ → ℤ
+levelSum W H lev coef f L =
     sum2 (functions W L) (functions H L) λ a b.
-    cond (active W H lev L a b) (coef L a b *ℤ truncated W H lev u v (3 - L) L a b) (pos 0)
+    cond (active W H lev L a b) (coef L a b *ℤ truncation W H lev f (3 - L) L a b) (pos 0)
+
+-- What "the active coefficients times their truncated functions add up to".
+unfoldable pub activeSum : ℕ → ℕ → (ℕ → ℕ → ℕ) → (ℕ → ℕ → ℕ → ℤ) → (ℕ → ℕ → ℕ → ℤ) → ℤ
+activeSum W H lev coef f = sum 4 (λ L. levelSum W H lev coef f L)
 
 -- "The exact reading at a point is the fraction that the active coefficients times their truncated functions add up to
 -- there": its numerator over D. coef L a b counts 1/64^L watt.
-unfoldable pub reading : ℕ → ℕ → (ℕ → ℕ → ℕ) → (ℕ → ℕ → ℕ → ℤ) → ℕ → ℕ → ℤ
-reading W H lev coef u v = sum 4 (λ L. levelReading W H lev coef u v L)
+abbrev pub reading : ℕ → ℕ → (ℕ → ℕ → ℕ) → (ℕ → ℕ → ℕ → ℤ) → ℕ → ℕ → ℤ
+reading W H lev coef u v = activeSum W H lev coef (valueAt W H u v)
 
 -- "D = 36×2^42 = 158,329,674,399,744"
 abbrev pub D : ℕ

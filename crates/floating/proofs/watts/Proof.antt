@@ -1,26 +1,20 @@
 -- `floating::watts` meets its contract: n is below 2^64 and n/D below 2^18, so two roundings stay within 2^-30.
 use mathlib.Core.Path.{_∙_, sym, ap, subst}
-use Prim.Native.Nat.{_≤_, _^_, suc}
+use Prim.Native.Nat.{_^_}
 use native.Mathlib.Omega.{arith}
 use borrow.Author.Needs.{needs}
 use lib.Dec.{lit≤}
-use lib.IntN.{ℤ, pos, negsuc, natAbs}
-use lib.Signed.{mag}
 use lib.Ieee.{Float, binary64, div, ofInt, ofBits}
 use mir.Syntax.{w64}
 use mir.ValLaws.{toZ-ofZ}
 use Rattle.surface.specs.Truncation.{D}
 use Rattle.surface.specs.FloatReading.{Near}
-use Rattle.floating.proofs.FloatLaws.{Room, quotient-near}
+use Rattle.floating.proofs.FloatLaws.{Room, quotient-near, abs-mag}
 use Rattle.floating.proofs.watts.Statement.{statement}
 use Rattle.floating.proofs.watts.Tie as tie
 
 room : Room binary64 (2 ^ 30) D 64 18
 room = record { first = lit≤ tt; second = lit≤ tt; quotient = lit≤ tt; error = lit≤ tt }
-
-abs-mag : (n : ℤ) → natAbs n ≤ suc (mag n)
-abs-mag (pos a) = omega arith
-abs-mag (negsuc a) = omega arith
 
 -- the literal is 9 × 2^44
 returns : tie.Need-returns

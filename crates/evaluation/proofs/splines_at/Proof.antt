@@ -2,9 +2,9 @@
 use Prim.Native.Nat.{_-_}
 use native.Mathlib.Omega.{arith}
 use borrow.Author.Needs.{needs}
-use Rattle.patch.proofs.Evaluation.{splines}
-use Rattle.patch.proofs.splines_at.Statement.{statement}
-use Rattle.patch.proofs.splines_at.Tie as tie
+use Rattle.evaluation.proofs.Evaluation.{splines}
+use Rattle.evaluation.proofs.splines_at.Statement.{statement}
+use Rattle.evaluation.proofs.splines_at.Tie as tie
 
 returns : tie.Need-returns
 returns c =

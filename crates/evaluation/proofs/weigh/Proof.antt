@@ -8,10 +8,10 @@ use lib.ListN.{getD}
 use mir.Syntax.{w64}
 use mir.Val.{SFits, toZ, ofZ}
 use borrow.Author.Needs.{needs}
-use Rattle.patch.specs.Steps.{weighed}
+use Rattle.evaluation.specs.Weights.{weighed}
 use Rattle.patch.proofs.Size.{Holds, holds, times, add-fits, mul-fits, add-holds, mul-holds}
-use Rattle.patch.proofs.weigh.Statement.{statement}
-use Rattle.patch.proofs.weigh.Tie as tie
+use Rattle.evaluation.proofs.weigh.Statement.{statement}
+use Rattle.evaluation.proofs.weigh.Tie as tie
 
 -- the four weights times the bound of the four
 all : (s : tie.Start)

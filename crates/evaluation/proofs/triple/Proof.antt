@@ -2,8 +2,8 @@
 use mathlib.Core.Path.{refl}
 use native.Mathlib.Nat.{mul-le-mul}
 use native.Mathlib.Omega.{arith}
-use Rattle.patch.proofs.triple.Statement.{statement}
-use Rattle.patch.proofs.triple.Tie as tie
+use Rattle.evaluation.proofs.triple.Statement.{statement}
+use Rattle.evaluation.proofs.triple.Tie as tie
 
 mul-result : tie.Need-mul-result
 mul-result c = omega (arith, mul-le-mul (c .pre .0) (c .pre .1))
