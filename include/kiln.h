@@ -3,8 +3,9 @@
    Power draw over chamber temperature and climb rate is a surface of truncated hierarchical bicubic splines on a sheet
    of W by H cells. The calls make, load, refine, read and save tables of such a surface. `rt staticlib kiln` writes
    the library to target/staticlib/libkiln.a, for x86-64. It needs memcpy and memset and nothing else. This header
-   includes kiln_refusal.h, which stands beside it. kiln_table.h has the same calls with a table in one struct. The
-   calls are proved; the static inline functions of all three headers are plain C, which is tested and not proved.
+   includes kiln_refusal.h, which stands beside it. kiln_table.h has the same calls with a table in one struct, and
+   kiln_arrow.h an arrow for the display. The calls are proved; the static inline functions of all four headers are
+   plain C, which is tested and not proved.
 
    Answers
      Every call returns 0 when it is done, else the refusal number of the cause that applies, the lowest where several
@@ -43,7 +44,7 @@ extern "C" {
 /* The version of this header, which is that of the library it came with. The archive itself carries none: compile a
    program with the header of the archive that it links. */
 #define KILN_VERSION_MAJOR 0
-#define KILN_VERSION_MINOR 6
+#define KILN_VERSION_MINOR 7
 #define KILN_VERSION_PATCH 0
 
 /* The table
@@ -96,6 +97,9 @@ extern "C" {
 
 /* No cost is greater, in hundredths of a cent per hour: 32,000 watts at a tariff of 99,999. */
 #define KILN_GREATEST_COST 3199968
+
+/* No exact slope is greater in size, in watts per eighth of a cell: one and a half times 32,000 watts. */
+#define KILN_GREATEST_SLOPE 48000
 
 /* The places of one level of a w by h sheet: the length of kiln_activity's output. 0 for a side that is not 1 to 8 or
    a level that is not 0 to 3, which the calls refuse with another number. */
@@ -251,6 +255,23 @@ uint8_t kiln_exact(size_t w, size_t h, const uint8_t *tree, size_t tree_len, con
    Refusals: 1 to 6. A refusal leaves watts as they were. */
 uint8_t kiln_watts(size_t w, size_t h, const uint8_t *tree, size_t tree_len, const int64_t *numbers,
                    size_t numbers_len, size_t u, size_t v, double *watts);
+
+/* The watts at a point and both slopes there, for an arrow that shows whether a hotter or a quicker climb costs more. A
+   slope is the derivative of the surface in watts per eighth of a cell: the change of the watts over an eighth of a
+   level 0 cell, 16 steps, at the rate that they have at the point, negative where they fall. At a far edge the last
+   cell's polynomial counts. Doubles must be rounded to nearest, as for kiln_watts. kiln_arrow.h has the three in one
+   struct, and tells what the arrow says.
+
+   w, h, tree, numbers   the table
+   u, v                  the point
+   watts                 receives the watts, within 2^-30 watt of the exact reading
+   along_u               receives the slope along u, hotter, within 2^-20 of the exact one
+   along_v               receives the slope along v, quicker, within 2^-20 of the exact one
+                         (none of the three is an infinity or NaN)
+
+   Refusals: 1 to 6. A refusal leaves watts, along_u and along_v as they were. */
+uint8_t kiln_slopes(size_t w, size_t h, const uint8_t *tree, size_t tree_len, const int64_t *numbers,
+                    size_t numbers_len, size_t u, size_t v, double *watts, double *along_u, double *along_v);
 
 /* The figure for the display: the exact watts rounded to the nearest whole number, halves upward, also below zero
    (-0.5 gives 0 and -1.5 gives -1).

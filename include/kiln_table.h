@@ -3,11 +3,12 @@
    A table, a point, a box, a function and a sheet are structs of their own, so that a compiler refuses one in place of
    another, and a table's sides, buffers and lengths stay together. Each function makes the one call that it names, but
    for those of rooms and of quarters, which make none: what the call gives, its refusals and what they leave are said
-   in kiln.h, and below what differs. Members are best said by name, in C as (struct kiln_point){.u = 64, .v = 5}. */
+   in kiln.h, and below what differs. Members are best said by name, in C as (struct kiln_point){.u = 64, .v = 5}.
+   Includes kiln.h, and kiln_arrow.h for the struct of watts and slopes. */
 #ifndef KILN_TABLE_H
 #define KILN_TABLE_H
 
-#include "kiln.h"
+#include "kiln_arrow.h"
 
 /* A table that calls read. Only kiln_table_set writes numbers: those of a table in read-only memory may be cast. */
 struct kiln_table {
@@ -148,6 +149,14 @@ static inline uint8_t kiln_table_exact(const struct kiln_table *table, struct ki
 static inline uint8_t kiln_table_watts(const struct kiln_table *table, struct kiln_point point, double *watts) {
   return kiln_watts(table->w, table->h, table->tree, table->tree_len, table->numbers, table->numbers_len, point.u,
                     point.v, watts);
+}
+
+/* kiln_slopes, with what it gives in one struct, of which kiln_hotter, kiln_quicker and kiln_arrow_of tell the arrow. A
+   refusal leaves at as it was. */
+static inline uint8_t kiln_table_slopes(const struct kiln_table *table, struct kiln_point point,
+                                        struct kiln_watts_and_slopes *at) {
+  return kiln_slopes_at(table->w, table->h, table->tree, table->tree_len, table->numbers, table->numbers_len, point.u,
+                        point.v, at);
 }
 
 /* kiln_display. */

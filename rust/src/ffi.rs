@@ -44,6 +44,10 @@ extern "C" {
         w: usize, h: usize, tree: *const u8, tree_len: usize, numbers: *const i64, numbers_len: usize, u: usize,
         v: usize, watts: *mut f64,
     ) -> u8;
+    fn kiln_slopes(
+        w: usize, h: usize, tree: *const u8, tree_len: usize, numbers: *const i64, numbers_len: usize, u: usize,
+        v: usize, watts: *mut f64, along_u: *mut f64, along_v: *mut f64,
+    ) -> u8;
     fn kiln_display(
         w: usize, h: usize, tree: *const u8, tree_len: usize, numbers: *const i64, numbers_len: usize, u: usize,
         v: usize, watts: *mut i64,
@@ -166,6 +170,28 @@ pub fn watts([w, h]: [usize; 2], tree: &[u8], numbers: &[i64], [u, v]: [usize; 2
     // SAFETY: reads two slices and writes a local value.
     let n = unsafe { kiln_watts(w, h, tree.as_ptr(), tree_len, numbers.as_ptr(), numbers_len, u, v, &mut watts) };
     unless_refused(n, watts)
+}
+
+/// The watts, the slope along u and the slope along v.
+pub fn slopes([w, h]: [usize; 2], tree: &[u8], numbers: &[i64], [u, v]: [usize; 2]) -> Answer<(f64, f64, f64)> {
+    let (mut watts, mut along_u, mut along_v) = (0.0, 0.0, 0.0);
+    // SAFETY: reads two slices and writes three local values.
+    let n = unsafe {
+        kiln_slopes(
+            w,
+            h,
+            tree.as_ptr(),
+            tree.len(),
+            numbers.as_ptr(),
+            numbers.len(),
+            u,
+            v,
+            &mut watts,
+            &mut along_u,
+            &mut along_v,
+        )
+    };
+    unless_refused(n, (watts, along_u, along_v))
 }
 
 /// The whole watts.

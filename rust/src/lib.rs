@@ -31,8 +31,9 @@
 #![deny(unsafe_code)]
 #![warn(missing_docs)]
 
-// Each of ffi, refusal, sizes, place, table, file, readings and around uses only those before it.
+// Each of ffi, refusal, sizes, place, table, file, arrow, readings and around uses only those before it.
 mod around;
+mod arrow;
 mod ffi;
 mod file;
 mod place;
@@ -42,8 +43,9 @@ mod sizes;
 mod table;
 
 pub use around::ActiveFunction;
+pub use arrow::{Arrow, WattsAndSlopes, Way};
 pub use place::{Point, QuarterBox};
 pub use refusal::Refusal;
 pub use sizes::{file_counts, level_places, place_of, places};
-pub use sizes::{DENOMINATOR, FILE_BYTES, GREATEST_COST, NOTE_BYTES, TREE_BYTES};
+pub use sizes::{DENOMINATOR, FILE_BYTES, GREATEST_COST, GREATEST_SLOPE, NOTE_BYTES, SLOPE_BOUND, TREE_BYTES};
 pub use table::{Levels, Table};

@@ -1,4 +1,5 @@
-//! What a table says at a point: watts and cost.
+//! What a table says at a point: watts, slopes and cost.
+use crate::arrow::WattsAndSlopes;
 use crate::ffi;
 use crate::place::Point;
 use crate::refusal::Refusal;
@@ -42,6 +43,36 @@ impl Table {
     /// ```
     pub fn watts(&self, point: Point) -> Result<f64, Refusal> {
         Ok(ffi::watts(self.sheet(), self.tree(), self.numbers(), point.steps())?)
+    }
+
+    /// The reading at a point as [`watts`](Table::watts) gives it, within 2^-30 watt of the exact one, and both slopes
+    /// there, each within [`SLOPE_BOUND`](crate::SLOPE_BOUND), 2^-20, of the exact derivative of the surface.
+    ///
+    /// A slope is in watts per eighth of a cell: the change of the watts over an eighth of a level 0 cell, 16 steps, at
+    /// the rate that they have at the point, negative where they fall. At a far edge the last cell's polynomial counts.
+    /// No exact slope is beyond [`GREATEST_SLOPE`](crate::GREATEST_SLOPE) in size. None of the three is an infinity or
+    /// NaN. What an arrow beside the figure says is told by [`WattsAndSlopes`].
+    ///
+    /// Refused: a point off the sheet.
+    ///
+    /// ```
+    /// use kiln::{places, Arrow, Point, Refusal, Table, Way, SLOPE_BOUND};
+    ///
+    /// // The watts rise by 1,000 over a cell along u, and not at all along v.
+    /// let mut numbers = [-1_000, 0, 1_000, 2_000].repeat(4);
+    /// numbers.resize(places(1, 1), 0);
+    /// let table = Table::from_parts(1, 1, &[0], &numbers)?;
+    /// for point in [Point::new(64, 5), Point::new(0, 0), Point::new(128, 128)] {
+    ///     let at = table.slopes(point)?;
+    ///     assert!((at.along_u - 125.0).abs() <= SLOPE_BOUND && at.along_v.abs() <= SLOPE_BOUND);
+    ///     assert_eq!((at.hotter(), at.quicker(), at.arrow()), (Way::More, Way::Even, Arrow::Hotter));
+    /// }
+    /// assert_eq!(table.slopes(Point::new(129, 128)), Err(Refusal::Point));
+    /// # Ok::<(), Refusal>(())
+    /// ```
+    pub fn slopes(&self, point: Point) -> Result<WattsAndSlopes, Refusal> {
+        let (watts, along_u, along_v) = ffi::slopes(self.sheet(), self.tree(), self.numbers(), point.steps())?;
+        Ok(WattsAndSlopes { watts, along_u, along_v })
     }
 
     /// The figure for the display: the exact watts rounded to the nearest whole number, halves upward.

@@ -18,6 +18,28 @@ pub const DENOMINATOR: i64 = 158_329_674_399_744;
 /// ```
 pub const GREATEST_COST: usize = 3_199_968;
 
+/// No exact slope is greater in size, in watts per eighth of a cell: one and a half times 32,000 watts.
+///
+/// ```
+/// use kiln::{level_places, places, Point, Table, GREATEST_SLOPE, SLOPE_BOUND};
+///
+/// // Columns of level 3 at their limits, the first two below zero: at the middle of the first cell all four pull.
+/// let limit = 32_000 << 18;
+/// let mut numbers = vec![0; places(8, 8) - level_places(8, 8, 3)];
+/// numbers.extend((0..level_places(8, 8, 3)).map(|place| if place % 67 < 2 { -limit } else { limit }));
+/// let slopes = Table::from_parts(8, 8, &[3], &numbers)?.slopes(Point::new(8, 500))?;
+/// assert!((slopes.along_u - GREATEST_SLOPE).abs() <= SLOPE_BOUND && slopes.along_v.abs() <= SLOPE_BOUND);
+/// # Ok::<(), kiln::Refusal>(())
+/// ```
+pub const GREATEST_SLOPE: f64 = 48_000.0;
+
+/// 2^-20 watts per eighth of a cell: no slope that is given is farther from the exact one.
+///
+/// ```
+/// assert_eq!(kiln::SLOPE_BOUND * f64::from(1 << 20), 1.0);
+/// ```
+pub const SLOPE_BOUND: f64 = 1.0 / 1_048_576.0;
+
 /// No tree is longer, in bytes.
 ///
 /// ```

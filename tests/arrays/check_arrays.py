@@ -22,7 +22,7 @@ ROOT = Path(__file__).resolve().parents[2]
 CRATE, STEP = "patch", "patch::subdivide"
 BY_VALUE = ROOT / "tests/arrays/step_by_value.mir"
 # What other crates call of this one: a second step would be another name.
-CALLED = {"subdivide", "evaluate", "even", "odd"}
+CALLED = {"subdivide", "even", "odd"}
 # The types of locals that hold one number, nothing, or where something stands.
 SINGLE = ("tyInt", "tyBool", "tyUnit", "tyPtr", "tyRef")
 NUMBER = "(tyInt 64)"

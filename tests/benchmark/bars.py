@@ -6,8 +6,9 @@ from __future__ import annotations
 
 from typing import Callable, Dict, List, NamedTuple
 
-from measure import AT_LEVEL, EXACT, LARGEST, LARGEST_FILE, LOADS, MEASURED, READ, READ_UNCOUNTED, READINGS
-from measure import UNREFINED, WRITES, Figures, beyond_on, calls_on, counted_on, level_at, stacked_on, tables
+from measure import AT_LEVEL, EXACT, LARGEST, LARGEST_FILE, LOADS, MEASURED, READ, READ_UNCOUNTED, READINGS, SLOPES
+from measure import SLOPES_2, UNREFINED, WATTS, WATTS_2, WRITES, Figures, beyond_on, calls_on, counted_on, level_at
+from measure import stacked_on, tables
 
 RATIO = 1.2
 CHECK = 150_000
@@ -39,10 +40,14 @@ READ_BEFORE_NOTE = {
 MORE_FOR_NOTE = 500
 # Of an exact reading beyond the table check, by the level of the quarter square that holds its point; of the other
 # readings beyond the exact one; and of their stack, by the kind of table: the most that they took before the step that
-# subdivides a patch worked in one array.
-BEYOND_AT_LEVEL = (266, 970, 1_588, 2_181)
+# subdivides a patch worked in one array, but at level 0, where it is what a reading takes since slopes are read by the
+# same code.
+BEYOND_AT_LEVEL = (306, 970, 1_588, 2_181)
 BEYOND_EXACT = {"watts": 18, "display": 21, "cost": 34}
 READING_STACK = {"unrefined": 1_520, "fully split": 1_968, "all of level 3": 1_520}
+# Of watts and slopes over those of the f64 reading at the same point: one check of the table, and one patch. A second
+# check would be past it anywhere, a second patch at the point of level 2 of the smallest split table.
+OVER_WATTS = 1.15
 # Readings are taken at a point of level 0.
 READING = CHECK + BEYOND_AT_LEVEL[0]
 STACK = 8_192
@@ -109,13 +114,20 @@ def beyond_exact(call: str) -> Callable[[Figures], Dict[str, float]]:
                             for table, ours in figures.library.items() if call in calls_on(table)}
 
 
+def over_watts(figures: Figures) -> Dict[str, float]:
+    """The instructions of watts and slopes over those of the f64 reading, at the same point."""
+    return {f"{MEASURED[call]}, {table}": ours.counts[call] / ours.counts[watts]
+            for table, ours in figures.library.items()
+            for call, watts in ((SLOPES, WATTS), (SLOPES_2, WATTS_2)) if call in calls_on(table)}
+
+
 def corners(figures: Figures) -> Dict[str, float]:
     return {LARGEST_FILE: figures.corners / figures.library[LARGEST_FILE].counts[READ]}
 
 
 BARS = {
-    "ratio": Bar("instructions over those of the C program, of a call, and of an exact reading beyond the table check",
-                 RATIO, ratios),
+    "ratio": Bar("instructions over those of the C program, of a call, and of an exact reading, and of watts and "
+                 "slopes, beyond the table check", RATIO, ratios),
     "check": Bar(f"instructions of the table check, {LARGEST}", CHECK, counts(LARGEST, "table_cause")),
     "unrefined": Bar(f"instructions of the table check, {UNREFINED}", CHECK_UNREFINED,
                      counts(UNREFINED, "table_cause")),
@@ -132,6 +144,8 @@ BARS = {
        for level, most in enumerate(BEYOND_AT_LEVEL)},
     **{call: Bar(f"instructions of {words} beyond those of the exact reading", BEYOND_EXACT[call], beyond_exact(call))
        for call, words in (("watts", "an f64 reading"), ("display", "a display"), ("cost", "a cost"))},
+    "slopes": Bar("instructions of watts and slopes over those of an f64 reading at the same point", OVER_WATTS,
+                  over_watts),
     "stack": Bar("bytes of stack of a call", STACK, stacks),
     "reading stack": Bar("bytes of stack of a reading, beyond those before subdivision worked in one array", 0,
                          more_stack),

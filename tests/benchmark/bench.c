@@ -17,7 +17,7 @@ static uint8_t tree[1365], out[4489], tree_out[1365], file[32376], uncounted[323
 static uint8_t file_out[32443];
 static int64_t numbers[6196], numbers_out[6196];
 
-/* Where it reads: all readings at the first, the exact one at each. */
+/* Where it reads: all readings at the first, the exact one at each, as f64 and with slopes at the last too. */
 static struct point {
   size_t u, v;
 } points[3];
@@ -64,7 +64,7 @@ static unsigned insert(void) {
 }
 
 static int64_t whole;
-static double watts_read;
+static double watts_read, along_u, along_v;
 
 static unsigned exact(void) {
   return CALL(exact)(w, h, tree, tree_len, numbers, numbers_len, points[0].u, points[0].v, &whole);
@@ -80,6 +80,20 @@ static unsigned exact_2(void) {
 
 static unsigned watts(void) {
   return CALL(watts)(w, h, tree, tree_len, numbers, numbers_len, points[0].u, points[0].v, &watts_read);
+}
+
+static unsigned watts_2(void) {
+  return CALL(watts)(w, h, tree, tree_len, numbers, numbers_len, points[2].u, points[2].v, &watts_read);
+}
+
+static unsigned slopes(void) {
+  return CALL(slopes)(w, h, tree, tree_len, numbers, numbers_len, points[0].u, points[0].v, &watts_read, &along_u,
+                      &along_v);
+}
+
+static unsigned slopes_2(void) {
+  return CALL(slopes)(w, h, tree, tree_len, numbers, numbers_len, points[2].u, points[2].v, &watts_read, &along_u,
+                      &along_v);
 }
 
 static unsigned display(void) {
@@ -132,6 +146,7 @@ static const struct call calls[] = {
   {"nothing", nothing}, {"table_cause", table_cause}, {"least_level", least_level}, {"least_at", least_at},
   {"activity", activity}, {"fresh", fresh}, {"set", set}, {"insert", insert},
   {"exact", exact}, {"exact_1", exact_1}, {"exact_2", exact_2}, {"watts", watts}, {"display", display}, {"cost", cost},
+  {"watts_2", watts_2}, {"slopes", slopes}, {"slopes_2", slopes_2},
   {"read_file", read_file}, {"read_uncounted", read_uncounted}, {"read_noted", read_noted},
   {"read_bench", read_bench}, {"bench_noted", bench_noted}, {"write_file", write_file}, {"write_noted", write_noted},
 };

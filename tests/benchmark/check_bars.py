@@ -16,15 +16,16 @@ sys.dont_write_bytecode = True
 import bars
 from calls import watts_at
 from measure import BEYONDS, CALLS, EXACT, EXACT_1, EXACT_2, LARGEST, LARGEST_FILE, MEASURED, READ, READ_UNCOUNTED
-from measure import READINGS, ROOT, UNREFINED, Figures, Measured, all_figures, calls_on, counted_on, point_of
-from measure import stacked_on, table_names, tables
+from measure import READINGS, ROOT, SLOPES_BEYONDS, UNREFINED, Figures, Measured, all_figures, calls_on, counted_on
+from measure import point_of, stacked_on, table_names, tables
 
 PAGE, HEADER = ROOT / "docs/BENCHMARKS.md", ROOT / "include/kiln.h"
-# What reads a file, what writes one, and what reads at a point, named here again.
+# What reads a file, what writes one, what reads at a point, and what gives slopes there, named here again.
 READ_BY = (READ, READ_UNCOUNTED, "read_noted", "read_bench", "bench_noted")
 WRITTEN = ("write_file", "write_noted")
 BESIDE_EXACT = ("watts", "display", "cost")
 READ_AT_POINT = (EXACT, EXACT_1, EXACT_2, *BESIDE_EXACT)
+SLOPES_AT = ("slopes", "slopes_2")
 # The level of the quarter square at which an exact reading is taken, by the kind of table. On a fully split one the
 # level of quarter (q, r) is q % 2 + r % 2, and the points lie in quarters (2 W, 2 H), (2 W + 1, 2 H) and
 # (2 W + 1, 2 H + 1).
@@ -67,8 +68,9 @@ def pushes() -> Iterator[Push]:
     """Every figure that a bar is held of, by itself: no code of bars.py says which these are."""
     for table in table_names():
         for call in calls_on(table):
-            # So far past C an f64 reading takes 20 more than the exact one, which is past its bar.
-            lower = ("watts",) if call == "watts" else ()
+            # So far past C an f64 reading takes 20 more than the exact one, and watts and slopes 1.2 times an f64
+            # reading, which is past their bars.
+            lower = ("watts",) if call == "watts" else ("slopes",) if call in SLOPES_AT else ()
             yield "ratio", f"{MEASURED[call]}, {table}", partial(by_ratio, table, call, bars.RATIO), lower
         for call in stacked_on(table):
             lower = ("reading stack",) if call in READ_AT_POINT else ()
@@ -79,6 +81,12 @@ def pushes() -> Iterator[Push]:
         for call in set(BESIDE_EXACT) & set(calls_on(table)):
             bar = made_up().library[table].counts[EXACT] + bars.BEYOND_EXACT[call]
             yield call, f"{MEASURED[call]}, {table}", partial(by_count, table, call, bar), ()
+        for call in set(SLOPES_AT) & set(calls_on(table)):
+            bar = round(bars.OVER_WATTS * made_up().library[table].counts["watts"])
+            yield "slopes", f"{MEASURED[call]}, {table}", partial(by_count, table, call, bar), ()
+        for call in SLOPES_AT[:1] if table == LARGEST_FILE else SLOPES_AT:
+            beyond = SLOPES_BEYONDS[call]
+            yield "ratio", f"{beyond}, {table}", partial(by_ratio, table, beyond, bars.RATIO), ()
         for call in (READ, READ_UNCOUNTED):
             bar = bars.READ_BEFORE_COUNTS[table] + bars.MORE_FOR_COUNTS
             yield "counts", f"{MEASURED[call]}, {table}", partial(by_count, table, call, bar), ("note",)

@@ -26,14 +26,16 @@ from tree import level_map
 
 # The calls by their names without kiln_, as bench.c has them.
 READINGS = {"exact": "Exact reading", "watts": "Reading as f64", "display": "Display", "cost": "Cost"}
+SLOPED = {"slopes": "Watts and slopes"}
 CALLS = {"table_cause": "Table check", "least_level": "Least level", "activity": "Activity", "fresh": "Fresh table",
-         "set": "Set", "insert": "Insertion", **READINGS, "read_file": "File reading", "read_bench": "Bench reading",
-         "write_file": "File writing"}
+         "set": "Set", "insert": "Insertion", **READINGS, **SLOPED, "read_file": "File reading",
+         "read_bench": "Bench reading", "write_file": "File writing"}
 # What is measured: each call, those of files with counts and no note; the least level under the point's quarter square
-# too, the exact reading at two points more, file reading without counts, and reading by both loaders and writing with a
-# note.
+# too, the exact reading at two points more, that as f64 and watts and slopes at the last of them, file reading without
+# counts, and reading by both loaders and writing with a note.
 CHECKED, LEAST_AT = "table_cause", "least_at"
 EXACT, EXACT_1, EXACT_2 = "exact", "exact_1", "exact_2"
+WATTS, WATTS_2, SLOPES, SLOPES_2 = "watts", "watts_2", "slopes", "slopes_2"
 AT_LEVEL = {EXACT_1: ", at a point of level 1 of a split table", EXACT_2: ", at a point of level 2 of a split table"}
 READ, READ_UNCOUNTED, READ_NOTED = "read_file", "read_uncounted", "read_noted"
 BENCH, BENCH_NOTED = "read_bench", "bench_noted"
@@ -41,15 +43,18 @@ WRITE, WRITE_NOTED = "write_file", "write_noted"
 LOADS, WRITES = (READ, READ_UNCOUNTED, READ_NOTED, BENCH, BENCH_NOTED), (WRITE, WRITE_NOTED)
 MEASURED = {**CALLS, LEAST_AT: "Least level, under a point",
             **{call: READINGS[EXACT] + where for call, where in AT_LEVEL.items()},
+            WATTS_2: READINGS[WATTS] + AT_LEVEL[EXACT_2], SLOPES_2: SLOPED[SLOPES] + AT_LEVEL[EXACT_2],
             READ_UNCOUNTED: "File reading, without counts", READ_NOTED: "File reading, with a note",
             BENCH_NOTED: "Bench reading, with a note", WRITE_NOTED: "File writing, with a note"}
 OF_FILES = LOADS + WRITES
 # The longest note.
 NOTE = bytes(range(64, 128))
-# What an exact reading takes beyond the table check, by the reading; and the point of each, from (64 W, 64 H) on: the
-# readings but the exact one are taken at the first.
+# What an exact reading, and watts and slopes, take beyond the table check, by the call; and the point of each exact
+# reading, from (64 W, 64 H) on: the other calls are made at the first, as f64 and with slopes at the last too.
 BEYOND = "Exact reading beyond the table check"
 BEYONDS = {EXACT: BEYOND, **{call: BEYOND + where for call, where in AT_LEVEL.items()}}
+SLOPES_BEYOND = "Watts and slopes beyond the table check"
+SLOPES_BEYONDS = {SLOPES: SLOPES_BEYOND, SLOPES_2: SLOPES_BEYOND + AT_LEVEL[EXACT_2]}
 POINTS = {EXACT: (5, 7), EXACT_1: (37, 7), EXACT_2: (37, 39)}
 SIZES, TURNS = (1, 4, 8), 3
 LARGEST, UNREFINED, LARGEST_FILE = "8 by 8, fully split", "8 by 8, unrefined", "8 by 8, all of level 3"
@@ -107,14 +112,20 @@ def beyond_on(table: str) -> Dict[str, str]:
     return {EXACT: BEYOND} if table == LARGEST_FILE else BEYONDS
 
 
+def slopes_beyond_on(table: str) -> Dict[str, str]:
+    """The calls of watts and slopes that are measured beyond the table check: on that of the largest file one, as of
+    exact readings."""
+    return {SLOPES: SLOPES_BEYOND} if table == LARGEST_FILE else SLOPES_BEYONDS
+
+
 def counted_on(table: str) -> Tuple[str, ...]:
-    """What has a count on a table: its calls, and the exact readings beyond the table check."""
-    return (*calls_on(table), *beyond_on(table).values())
+    """What has a count on a table: its calls, and the exact readings and watts and slopes beyond the table check."""
+    return (*calls_on(table), *beyond_on(table).values(), *slopes_beyond_on(table).values())
 
 
 def stacked_on(table: str) -> Tuple[str, ...]:
-    """The calls whose stack is measured on a table: its calls, and on that of the largest file the readings too."""
-    return (*OF_FILES, *READINGS) if table == LARGEST_FILE else calls_on(table)
+    """The calls whose stack is measured on a table: its calls, and on that of the largest file those at a point too."""
+    return (*OF_FILES, *READINGS, *SLOPED) if table == LARGEST_FILE else calls_on(table)
 
 
 def point_of(t: samples.Table, call: str) -> Tuple[int, int]:
@@ -176,7 +187,8 @@ def counted(program: str, text: str, *call: str) -> Dict[str, int]:
                 counts[name.group(1)] = int(re.search(r"^summary: (\d+)$", words, re.M).group(1))
     nothing = counts.pop("nothing")
     counts = {name: count - nothing for name, count in counts.items()}
-    counts.update({title: counts[one] - counts[CHECKED] for one, title in BEYONDS.items() if one in counts})
+    beyonds = {**BEYONDS, **SLOPES_BEYONDS}.items()
+    counts.update({title: counts[one] - counts[CHECKED] for one, title in beyonds if one in counts})
     return counts
 
 
@@ -210,6 +222,7 @@ def all_figures(with_times: bool) -> Figures:
             stacks = {call: int(n) for call, n in said(program, "stack", text, *stacked).items()}
             counts = counted(program, text, *only)
             if BEYOND not in counts:
-                counts[BEYOND] = counted(program, text, CHECKED, EXACT)[BEYOND]
+                more = counted(program, text, CHECKED, EXACT, SLOPES)
+                counts.update({title: more[title] for title in (BEYOND, SLOPES_BEYOND)})
             of[name] = Measured(counts, stacks, spent)
     return figures

@@ -29,6 +29,8 @@ uint8_t CALL(exact)(size_t w, size_t h, const uint8_t *tree, size_t tree_len, co
                     size_t numbers_len, size_t u, size_t v, int64_t *numerator);
 uint8_t CALL(watts)(size_t w, size_t h, const uint8_t *tree, size_t tree_len, const int64_t *numbers,
                     size_t numbers_len, size_t u, size_t v, double *watts);
+uint8_t CALL(slopes)(size_t w, size_t h, const uint8_t *tree, size_t tree_len, const int64_t *numbers,
+                     size_t numbers_len, size_t u, size_t v, double *watts, double *along_u, double *along_v);
 uint8_t CALL(display)(size_t w, size_t h, const uint8_t *tree, size_t tree_len, const int64_t *numbers,
                       size_t numbers_len, size_t u, size_t v, int64_t *watts);
 uint8_t CALL(cost)(size_t w, size_t h, const uint8_t *tree, size_t tree_len, const int64_t *numbers,

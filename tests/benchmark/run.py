@@ -14,8 +14,8 @@ from typing import Dict, List
 sys.dont_write_bytecode = True
 
 import bars
-from measure import BEYONDS, CALLS, LARGEST_FILE, MEASURED, OF_FILES, READ, ROOT, Figures, Measured, all_figures
-from measure import file_of, tables
+from measure import BEYONDS, CALLS, LARGEST_FILE, MEASURED, OF_FILES, READ, ROOT, SLOPES_2, SLOPES_BEYONDS, Figures
+from measure import Measured, all_figures, file_of, tables
 
 
 def processor() -> str:
@@ -37,7 +37,8 @@ def paragraphs() -> List[str]:
         "the point of the readings; the activity of level 3; one coefficient of level 0 is set; the whole sheet is "
         "raised to level 3; readings are taken at (64 W + 5, 64 H + 7), in a quarter square of level 0; the exact one "
         "also at (64 W + 37, 64 H + 7) and at (64 W + 37, 64 H + 39), which on the fully split tables lie in quarter "
-        "squares of level 1 and of level 2, and on the unrefined ones of level 0; the exact reading beyond the table "
+        "squares of level 1 and of level 2, and on the unrefined ones of level 0; the f64 reading and watts and slopes "
+        "at the first and the last of these points; the exact reading and watts and slopes beyond the table "
         "check and the stack of readings also where all is of level 3; the tariff is 1,500; the file that is read and "
         "written is the table's, with its counts and no note; it is read without the counts too, and read by both "
         "loaders and written with a note of 64 bytes. The largest is that of 8 by 8 with the tree 3, 22,445 bytes of "
@@ -94,8 +95,11 @@ def page(figures: Figures) -> str:
     for words in paragraphs():
         lines += ["", fill(words, 116, break_on_hyphens=False)]
     lines += bar_table(figures)
-    for call, title in (*MEASURED.items(), *((beyond, beyond) for beyond in BEYONDS.values())):
-        lines += call_table(call, title, figures)
+    beyonds = *BEYONDS.values(), *SLOPES_BEYONDS.values()
+    for call, title in (*MEASURED.items(), *((beyond, beyond) for beyond in beyonds)):
+        # At its second point watts and slopes are shown beyond the table check alone.
+        if call != SLOPES_2:
+            lines += call_table(call, title, figures)
     lines += ["", "## Stack", "", "Bytes of stack down to the lowest that one call changes, the greatest over these "
               "tables.", "", "| call | library | C |", "|---|---|---|"]
     for call, title in MEASURED.items():

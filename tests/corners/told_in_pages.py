@@ -1,7 +1,7 @@
 """That the worked figures in README.md and docs/WHY.md are what the compiled library gives."""
 from __future__ import annotations
 
-from typing import Iterator, NamedTuple, Tuple
+from typing import Iterator, NamedTuple, Sequence, Tuple
 
 import tablefile
 from calls import former_cost_of
@@ -29,6 +29,11 @@ def figures(table: tablefile.Content, u: int, v: int) -> Figures:
     answers = [LIBRARY.exact(w, h, tree, values, u, v), LIBRARY.display(w, h, tree, values, u, v)]
     answers += [LIBRARY.cost(w, h, tree, values, u, v, tariff) for tariff in (TARIFF, IN_CENTS)]
     return Figures(*(answer.said()[1] for answer in answers))
+
+
+def slopes(table: tablefile.Content, u: int, v: int) -> Sequence[float]:
+    """The watts, and both slopes."""
+    return LIBRARY.slopes(table.w, table.h, octets(table.tree), numbers(table.coefficients), u, v).said()[1:]
 
 
 def cost_at(table: tablefile.Content, u: int, tariff: int) -> int:
@@ -94,6 +99,8 @@ def told() -> Iterator[Tuple[str, str]]:
     halves = 2 * middle.exact // D if 2 * middle.exact % D == 0 else -1
     yield why, (f"In `bench-s.table` at 8 0 the exact watts are {halves // 2} {halves % 2}/2, and the display shows "
                 f"{middle.shown}")
+    hotter, quicker = (float(slope) for slope in slopes(plain, 900, 200)[1:])
+    yield why, f"falls by {-hotter:.1f} W hotter and rises by {quicker:.1f} W for a quicker climb"
     bits, loaded = damaged()
     yield why, (f"`{COUNTED}.table` has {bits:,} bits; with a single one turned over, it is refused in "
                 f"{bits - loaded:,} cases, and in the other {loaded:,} it loads")

@@ -133,6 +133,22 @@ def reading_table(rng: Random) -> samples.Table:
     return rng.choice((sloped_table, half_table, half_table, limit_table) + (table,) * 6)(rng)
 
 
+def steep_table(rng: Random) -> samples.Table:
+    """A table with every number at its limit, of one sign in two columns, or rows, and of the other in the next two, so
+    that each second cell is as steep as one can be in its middle; sometimes with any signs."""
+    t, along, phase, any_sign = table(rng), rng.randrange(2), rng.randrange(4), rng.random() < 0.2
+    surface = calls.surface_of(t.w, t.h, t.tree)
+    values = samples.equal_coefficients(surface, 32_000)
+    for level in LEVELS:
+        for f in surface.active_functions(level):
+            values[surface.place(level, *f)] *= rng.choice((1, -1)) if any_sign else 1 - (f[along] + phase) % 4 // 2 * 2
+    return t._replace(coefficients=values)
+
+
+def slope_table(rng: Random) -> samples.Table:
+    return rng.choice((sloped_table, half_table, limit_table) + (steep_table,) * 3 + (table,) * 4)(rng)
+
+
 def _beside(rng: Random, side: int) -> int:
     """A place along one side, one or two steps beside an edge of half a cell."""
     side = min(side, 8) or 1
@@ -157,6 +173,18 @@ def _at_edge(rng: Random, side: int) -> int:
 def point(rng: Random, w: int, h: int) -> Tuple[int, int]:
     along = rng.choice((_beside, _at_edge, _steps, _steps))
     return along(rng, w), along(rng, h)
+
+
+def _middle(rng: Random, side: int) -> int:
+    """A place along one side in the middle of a cell of any level."""
+    steps = 128 >> rng.randrange(4)
+    return steps * rng.randrange((min(side, 8) or 1) * 128 // steps) + steps // 2
+
+
+def slope_point(rng: Random, w: int, h: int) -> Tuple[int, int]:
+    """A point as readings have it, or in the middle of cells along one side or both."""
+    (u, v), kind = point(rng, w, h), rng.randrange(6)
+    return _middle(rng, w) if kind in (0, 1) else u, _middle(rng, h) if kind in (1, 2) else v
 
 
 def tariff(rng: Random) -> int:

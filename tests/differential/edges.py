@@ -13,7 +13,7 @@ from files import both_files, read, small
 from library import Library, differ, numbers, octets
 from saving import GREATEST_FILE, file_length, write
 from surface import D, LEVELS, TREE_SIDE, Box, LevelMap, coefficient_limit, place_count, total_places
-from tables import READINGS, read_at, words
+from tables import AT_POINT, READINGS, read_at, words
 
 NO_LEVELS: LevelMap = ((0,) * TREE_SIDE,) * TREE_SIDE
 # A length kept in 8 or in 16 bits is right but for so many elements.
@@ -104,7 +104,7 @@ def halves(lib: Library) -> Iterator[str]:
             yield differ(f"exact {told}", lib.exact(*lent(t), 1, 1), ("ok", half + off))
             yield differ(f"display {told}", lib.display(*lent(t), 1, 1), ("ok", shown))
             yield differ(f"cost {told}", lib.cost(*lent(t), 1, 1, 1_000), ("ok", max(shown, 0)))
-            yield from (read_at(lib, name, t, 1, 1) for name in READINGS[:3])
+            yield from (read_at(lib, name, t, 1, 1) for name in AT_POINT)
 
 
 def limits(lib: Library) -> Iterator[str]:
@@ -151,7 +151,7 @@ def largest_tree(rng: Random, lib: Library) -> Iterator[str]:
             for i, j in active[:1] + active[-1:] + [(8 * 2**level - 1, 8 * 2**level - 1)]:
                 yield put(lib, t, level, i, j, 5)
         for point in ((0, 0), (1_024, 1_024), *samples.random_points(rng, 8, 8, 6)):
-            yield from (read_at(lib, name, t, *point) for name in READINGS[:3])
+            yield from (read_at(lib, name, t, *point) for name in AT_POINT)
             yield read_at(lib, "cost", t, *point, 99_999)
         yield insert(lib, t, whole, 3, 1)
         yield insert(lib, t, (0, 0, 1, 1), 1, GREATEST)

@@ -15,9 +15,10 @@ import insertions
 import noted_files
 import quarter_levels
 import saving
+import slopes
 from cases import samples
 from library import Library, differ, numbers, octets
-from tables import READINGS
+from tables import AT_POINT, READINGS
 
 FLAT, REFINED, WHOLE = [0], [4, 4, 4, 1] + [0] * 9, (0, 0, 4, 4)
 # The bench sheet's surface S on 1 by 1, and S with level 1 on the whole sheet.
@@ -111,7 +112,7 @@ def bench_readings(lib: Library) -> List[str]:
         read("only (-3, -3), at (128, 128)", "exact", FLAT, corner, (128, 128), "ok", 0),
         read("only (-2, -2), at (0, 0)", "exact", FLAT, inner, (0, 0), "ok", 2**46),
         read("u 128 accepted", "exact", FLAT, S, (128, 0), "ok", 1_000 * d),
-        *(read("u 129 gives 6", name, FLAT, S, (129, 0), "refused", 6) for name in ("exact", "watts", "display")),
+        *(read("u 129 gives 6", name, FLAT, S, (129, 0), "refused", 6) for name in AT_POINT),
         read("500 watts as f64", "watts", FLAT, S, (64, 5), "ok", 500.0),
         read("0.5 shows 1", "display", FLAT, columns(-1, 0, 1, 2), (64, 5), "ok", 1),
         read("-0.5 shows 0", "display", FLAT, columns(-2, -1, 0, 1), (64, 5), "ok", 0),
@@ -225,7 +226,7 @@ def two_faults_of_calls(lib: Library) -> List[str]:
         *(after("insert, 8 with 16", 1, 1, FLAT, S, WHOLE, n, (13, 210), ("refused", 8)) for n in no_level),
         *(after("insert, 8 with 17", 1, 1, FLAT, S, WHOLE, n, (0, 211), ("refused", 8)) for n in no_level),
         *(after("insert, 16 with 17", 1, 1, FLAT, S, WHOLE, 1, (12, n), ("refused", 16)) for n in (210, 212)),
-        *(read(f"{name}, 5 with 6", name, FLAT, passive, (129, 0), "refused", 5) for name in READINGS[:3]),
+        *(read(f"{name}, 5 with 6", name, FLAT, passive, (129, 0), "refused", 5) for name in AT_POINT),
         read("cost, 5 with 6", "cost", FLAT, passive, (9, 129, 1_500), "refused", 5),
         read("cost, 5 with 11", "cost", FLAT, passive, (9, 9, 100_000), "refused", 5),
         read("cost, 6 with 11, along u", "cost", FLAT, S, (129, 9, 100_000), "refused", 6),
@@ -257,9 +258,10 @@ def whole_grids(rng: Random, lib: Library) -> List[str]:
 
 def faults(lib: Library, seed: int, grids: bool) -> List[str]:
     """What is not as it should be in any fixed case, whole grids among them or not; the seed draws lists of insertions,
-    tables and files, but nothing of the levels and the costs."""
+    tables and files, but nothing of the levels, the costs and the slopes."""
     found = bench_sheet(lib) + bench_readings(lib) + bench_insertions(lib) + bench_files(lib)
-    found += two_faults_of_tables(lib) + two_faults_of_calls(lib) + quarter_levels.fixed(lib) + costs.fixed(lib)
+    found += two_faults_of_tables(lib) + two_faults_of_calls(lib)
+    found += quarter_levels.fixed(lib) + costs.fixed(lib) + slopes.fixed(lib)
     if grids:
         found += whole_grids(Random(seed), lib)
     for part in (edges, files, counted_files, noted_files):

@@ -1,4 +1,5 @@
-"""Insertions, single and in lists, held to the unrelated evaluator; and no list moves an exact reading or a cost."""
+"""Insertions, single and in lists, held to the unrelated evaluator; and no list moves an exact reading, a cost or a
+slope."""
 from __future__ import annotations
 
 from random import Random
@@ -11,6 +12,9 @@ from saving import drawn
 
 # At as many points the cost is asked too, at each its tariff; the last of them is refused.
 TARIFFS = 2_950, 99_999, 100_000
+# At one point in so many watts and slopes are asked too, and at the last, which is beyond the sheet in generated lists.
+# A promise lets an f64 move within its bound; here it must not, since the fraction that it is worked from does not.
+SLOPES = 4
 
 
 def made(lib: Library, t: samples.Table, one: samples.Insertion) -> Tuple[str, samples.Table]:
@@ -27,11 +31,13 @@ def made(lib: Library, t: samples.Table, one: samples.Insertion) -> Tuple[str, s
 
 
 def readings(lib: Library, t: samples.Table, points: Sequence[samples.Point]) -> Tuple[str, List[Tuple]]:
-    """Reads one table at many points, and the cost at the first: what is written that should not be, and the answers,
-    each after what was asked."""
+    """Reads one table at many points, watts and slopes at some, and the cost at the first: what is written that should
+    not be, and the answers, each after what was asked."""
     tree, values, answers = octets(t.tree), numbers(t.coefficients), []
     asked = [("exact", lib.exact, point) for point in points]
-    for name, call, at in asked + [("cost", lib.cost, (*point, tariff)) for point, tariff in zip(points, TARIFFS)]:
+    asked += [("slopes", lib.slopes, point) for point in (*points[::SLOPES], points[-1])]
+    asked += [("cost", lib.cost, (*point, tariff)) for point, tariff in zip(points, TARIFFS)]
+    for name, call, at in asked:
         got = call(t.w, t.h, tree, values, *at)
         answers.append(((name, *at), got.said()))
         fault = differ(f"{name} {t.w} {t.h} {t.tree} {at}", got, got.said())

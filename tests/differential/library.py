@@ -251,6 +251,10 @@ class Library:
     def watts(self, w: int, h: int, tree: Lent, values: Lent, u: int, v: int) -> Answer:
         return self._taken("watts", w, h, tree, values, size(u), size(v), Float())
 
+    def slopes(self, w: int, h: int, tree: Lent, values: Lent, u: int, v: int) -> Answer:
+        """The scalars receive the watts, the slope along u and that along v."""
+        return self._taken("slopes", w, h, tree, values, size(u), size(v), *(Float() for _ in range(3)))
+
     def display(self, w: int, h: int, tree: Lent, values: Lent, u: int, v: int) -> Answer:
         return self._taken("display", w, h, tree, values, size(u), size(v), Scalar("q", NUMBER_BEFORE))
 

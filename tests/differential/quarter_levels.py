@@ -15,7 +15,7 @@ import stopping
 from cases import calls, quadtree, samples
 from library import Library, differ, numbers, octets
 from surface import D, LEVELS, Box
-from tables import READINGS, read_at, words
+from tables import AT_POINT, read_at, words
 
 # The rows of the cell that level_cases.py has split to single quarters, v rising.
 ROWS = ((0, 1, 3, 3), (2, 3, 3, 3), (1, 1, 2, 2), (1, 1, 2, 0))
@@ -111,7 +111,7 @@ def edges_met(rng: Random, lib: Library) -> Iterator[str]:
         points = stopping.points_of(rng, t)
         yield from (read_at(lib, "exact", t, *point) for point in points)
         one = rng.choice(points)
-        yield from (read_at(lib, name, t, *one) for name in READINGS[1:3])
+        yield from (read_at(lib, name, t, *one) for name in AT_POINT[1:])
         yield read_at(lib, "cost", t, *one, 99_999)
         q, r = stopping.squares_at(t.w, t.h, *one)[-1]
         box, level = (q, r, q + 1, r + 1), calls.surface_of(t.w, t.h, t.tree).levels[r][q]

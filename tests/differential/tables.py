@@ -5,14 +5,16 @@ A kind of call is a generator: for each call that it makes it yields what is not
 from __future__ import annotations
 
 from random import Random
-from typing import Callable, Dict, Iterator
+from typing import Callable, Dict, Iterator, Tuple
 
 import cases
 from cases import calls, samples
-from library import Library, differ, numbers, octets
+from library import Answer, Library, differ, numbers, octets
 from saving import drawn
 
-READINGS = ("exact", "watts", "display", "cost")
+# The calls that take a table and a point alone, and those that read at a point.
+AT_POINT = ("exact", "watts", "display", "slopes")
+READINGS = (*AT_POINT, "cost")
 
 
 def words(name: str, t: samples.Table, *more) -> str:
@@ -76,8 +78,10 @@ def table_cause(rng: Random, lib: Library) -> Iterator[str]:
 
 
 def read_at(lib: Library, name: str, t: samples.Table, *place: int) -> str:
-    """One reading at a point, with the tariff where the cost is asked; the f64 reading may differ within its bound."""
+    """One reading at a point, with the tariff where the cost is asked; an f64 may differ within its bound."""
     got = getattr(lib, name)(t.w, t.h, octets(t.tree), numbers(t.coefficients), *place)
+    if name == "slopes":
+        return near_slopes(words(name, t, place), got, calls.slopes(*t, *place).answer)
     if name == "watts":
         said = got.said()
         allowed = calls.float_allowed(t.w, t.h, t.tree, t.coefficients, *place, said)
@@ -88,16 +92,31 @@ def read_at(lib: Library, name: str, t: samples.Table, *place: int) -> str:
     return differ(words(name, t, place), got, want)
 
 
+def near_slopes(told: str, got: Answer, due: Tuple) -> str:
+    """Watts and slopes, each of which may differ within its own bound from the fraction that is due, or the refusal."""
+    said = got.said()
+    near = calls.slopes_allowed(due, said)
+    return differ(told, got, said if near else ("within 2^-30 of watts and 2^-20 of slopes", *map(str, due)))
+
+
 def readings(rng: Random, lib: Library) -> Iterator[str]:
     """All readings of a table at some points; the cost at several tariffs."""
     whole = drawn(lib, cases.reading_table(rng))
     for _ in range(6):
         t = cases.sometimes_damaged(rng, whole)
         u, v = cases.point(rng, t.w, t.h)
-        for name in ("exact", "watts", "display"):
+        for name in AT_POINT:
             yield read_at(lib, name, t, u, v)
         for _ in range(3):
             yield read_at(lib, "cost", t, u, v, cases.tariff(rng))
+
+
+def slopes(rng: Random, lib: Library) -> Iterator[str]:
+    """Watts and slopes of a table, steep ones among them, at many points, middles of cells among them."""
+    whole = drawn(lib, cases.slope_table(rng))
+    for _ in range(12):
+        t = cases.sometimes_damaged(rng, whole, 0.2)
+        yield read_at(lib, "slopes", t, *cases.slope_point(rng, t.w, t.h))
 
 
 KINDS: Dict[str, Callable[[Random, Library], Iterator[str]]] = {
@@ -107,4 +126,5 @@ KINDS: Dict[str, Callable[[Random, Library], Iterator[str]]] = {
     "set": set_coefficient,
     "table_cause": table_cause,
     "readings": readings,
+    "slopes": slopes,
 }

@@ -50,6 +50,7 @@ static uint8_t make(const char *name) {
   if (IS(set)) return kiln_set(N(0), N(1), B(2), given[3].at, given[3].count, N(4), I(5), I(6), I(7));
   if (IS(exact)) return kiln_exact(N(0), N(1), B(2), Q(3), N(4), N(5), ONE(6));
   if (IS(watts)) return kiln_watts(N(0), N(1), B(2), Q(3), N(4), N(5), ONE(6));
+  if (IS(slopes)) return kiln_slopes(N(0), N(1), B(2), Q(3), N(4), N(5), ONE(6), ONE(7), ONE(8));
   if (IS(display)) return kiln_display(N(0), N(1), B(2), Q(3), N(4), N(5), ONE(6));
   if (IS(cost)) return kiln_cost(N(0), N(1), B(2), Q(3), N(4), N(5), N(6), ONE(7));
   if (IS(read_file)) return kiln_read_file(B(0), OUT(1), OUT(2), ONE(3), ONE(4), ONE(5));

@@ -11,6 +11,7 @@ from typing import Any, Dict, List, NamedTuple, Optional, Sequence, Tuple
 
 import tablefile
 import tree as quadtree
+from derivatives import slopes_over
 from surface import (
     D,
     LEVELS,
@@ -28,6 +29,7 @@ from tablefile import GREATEST_NOTE, NO_PART, Note, NotePart
 
 GREATEST_TARIFF = 99_999
 FLOAT_BOUND = Fraction(1, 2**30)
+SLOPE_BOUND = Fraction(1, 2**20)
 
 Answer = Tuple[Any, ...]
 
@@ -256,9 +258,14 @@ def exact_at(
     return [numerator_over_d(watts_at(w, h, tree, coefficients, u, v)) for u, v in points]
 
 
-# Demand 2: 'the f64 reading lies within 2^-30 watt of it'; an infinity or no number lies within nothing.
+# Whether an f64 lies within a bound of a fraction; an infinity or no number lies within nothing.
+def _within(given: float, due: Fraction, bound: Fraction) -> bool:
+    return isfinite(given) and abs(Fraction(given) - due) <= bound
+
+
+# Demand 2: 'the f64 reading lies within 2^-30 watt of it'.
 def within_bound(watts: float, numerator: int) -> bool:
-    return isfinite(watts) and abs(Fraction(watts) - Fraction(numerator, D)) <= FLOAT_BOUND
+    return _within(watts, Fraction(numerator, D), FLOAT_BOUND)
 
 
 # Document 01, Readings, 'Float': whether ('ok', f64 watts) or ('refused', number) is an answer the promise allows.
@@ -269,6 +276,25 @@ def float_allowed(
     if expected[0] == "refused" or answer[0] == "refused":
         return tuple(answer) == expected
     return within_bound(answer[1], expected[1])
+
+
+# Document 02, Two: 'One record holds the watts and both slopes', 'Checks are those of a float reading'; 1 to 6. Answer
+# ('ok', watts, slope along u, slope along v), each the fraction that its f64 lies near; lent tree and coefficients.
+def slopes(w: int, h: int, tree: Sequence[int], coefficients: Sequence[int], u: int, v: int) -> Outcome:
+    cause = judge_reading(w, h, tree, coefficients, u, v)
+    if cause is not None:
+        return _after(refused(cause), tree=tree, coefficients=coefficients)
+    both = (derivative.read(coefficients, u, v) for derivative in slopes_over(w, h, tuple(tree)))
+    return _after(("ok", watts_at(w, h, tree, coefficients, u, v), *both), tree=tree, coefficients=coefficients)
+
+
+# Document 02, Two: 'Each lies within 2^-20 of the exact derivative', 'Watts keep the bound of 2^-30'; whether ('ok',
+# three f64) or ('refused', number) is an answer that the promise allows where the other is due.
+def slopes_allowed(due: Answer, answer: Answer) -> bool:
+    if due[0] == "refused" or answer[0] == "refused":
+        return tuple(answer) == tuple(due)
+    bounds = (FLOAT_BOUND, SLOPE_BOUND, SLOPE_BOUND)
+    return len(answer) == len(due) and all(map(_within, answer[1:], due[1:], bounds))
 
 
 # Document 01, Readings: 'rounded to the nearest whole number, halves upward, also below zero'.

@@ -21,6 +21,9 @@ import note_properties
 import properties
 import samples
 import saved_files
+import slope_cases
+import slope_misreadings
+import slope_properties
 import stopping
 import tablefile
 import tree as quadtree
@@ -155,6 +158,7 @@ def refusals(check: Check) -> None:
         cases.append((number, calls.exact(*table, -1, 999)))
         cases.append((number, calls.display(*table, -1, 999)))
         cases.append((number, calls.cost(*table, -1, 999, -1)))
+        cases += [(number, calls.slopes(*table, u, v)) for u, v in ((-1, 999), (0, 0))]
         # 18 is 'judged last': with an output that is too short too, and with one that no file is longer than.
         cases += [(number, calls.write_file(*table, [8] * n)) for n in (0, 99, 32_376, tablefile.GREATEST_FILE)]
         if number <= 2:
@@ -163,6 +167,7 @@ def refusals(check: Check) -> None:
     s = bench_s()
     for u, v in ((129, 0), (0, 129), (-1, 0), (0, -1)):
         cases += [(6, calls.exact(*s, u, v)), (6, calls.display(*s, u, v)), (6, calls.cost(*s, u, v, 100_000))]
+        cases.append((6, calls.slopes(*s, u, v)))
     for wrong in ((0, 0, 5, 4), (0, 0, 4, 5), (4, 0, 0, 4), (0, 4, 4, 0), (1, 1, 1, 2), (-1, 0, 1, 1), (0, -1, 1, 1)):
         cases += [(7, calls.insert(*s, wrong, 0, [], [])), (7, calls.least_level(1, 1, [0], wrong))]
     for level in (-1, 0, 4, 2**33):
@@ -309,6 +314,8 @@ GROUPS = [
     ("costs", cost_cases.costs),
     ("where a cost rises", cost_cases.nearest),
     ("costs beside those before", cost_cases.changes),
+    ("watts and slopes", slope_cases.slopes),
+    ("bounds of watts and slopes", slope_cases.bounds),
     ("table files", file_cases.files),
     ("counts in a file", file_cases.counts),
     ("counts and other causes", file_cases.counts_in_order),
@@ -326,6 +333,12 @@ GROUPS = [
     ("refinement", properties.refinement),
     ("readings by a level, and misreadings of that level", stopping.by_levels),
     ("readings on shared edges", stopping.shared_edges),
+    ("slopes of cubics through readings", slope_properties.by_readings),
+    ("readings beside the line of a slope", slope_properties.remainders),
+    ("slopes in both cells of an edge", slope_properties.both_cells),
+    ("linearity of slopes", slope_properties.linearity),
+    ("refinement and slopes", slope_properties.refinement),
+    ("sizes of slopes", slope_properties.sizes),
     ("saving and loading", properties.saving),
     ("saving what was loaded", properties.saving_again),
     ("files of one table", saved_files.files_of_a_table),
@@ -337,6 +350,7 @@ GROUPS = [
     ("misreadings on the properties", properties.misreadings),
     ("misreadings of the levels under a box", level_cases.greatest_misreadings),
     ("misreadings of the cost", cost_cases.cost_misreadings),
+    ("misreadings of the slopes", slope_misreadings.slope_misreadings),
     ("misreadings of saving", saved_files.saving_misreadings),
     ("misreadings of a note that is read", note_misreadings.loading_misreadings),
     ("misreadings of a note that is saved", note_misreadings.writing_misreadings),

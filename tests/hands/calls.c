@@ -44,6 +44,30 @@ static void sheet_s(void) {
   HELD(kiln_exact(1, 1, flat, 1, s, ONE, 0, 129, &numerator) == KILN_POINT && numerator == 500 * KILN_DENOMINATOR);
 }
 
+/* Document 02, "One record holds the watts and both slopes": S rises by 1,000 watts over a cell along u, so by 125 over
+   an eighth, and not along v; at the far edges too. A refused call leaves all three values. */
+static void slopes_of_s(void) {
+  static const size_t along[3] = {0, 64, 128};
+  double along_u = 7, along_v = 8;
+  watts = 9;
+  HELD(kiln_slopes(9, 1, flat, 1, s, ONE, 64, 5, &watts, &along_u, &along_v) == KILN_SIDE);
+  HELD(kiln_slopes(1, 1, split, 5, s, ONE, 64, 5, &watts, &along_u, &along_v) == KILN_TREE);
+  HELD(kiln_slopes(1, 1, flat, 1, s, ONE - 1, 64, 5, &watts, &along_u, &along_v) == KILN_NUMBERS_LENGTH);
+  HELD(kiln_slopes(1, 1, flat, 1, s, ONE, 129, 5, &watts, &along_u, &along_v) == KILN_POINT);
+  HELD(kiln_slopes(1, 1, flat, 1, s, ONE, 64, 129, &watts, &along_u, &along_v) == KILN_POINT);
+  s[3] = 32001, s[ONE - 1] = 1;
+  HELD(kiln_slopes(1, 1, flat, 1, s, ONE, 64, 129, &watts, &along_u, &along_v) == KILN_COEFFICIENT_LIMIT);
+  s[3] = columns[3];
+  HELD(kiln_slopes(1, 1, flat, 1, s, ONE, 64, 129, &watts, &along_u, &along_v) == KILN_PASSIVE_NOT_ZERO);
+  s[ONE - 1] = 0;
+  HELD(watts == 9 && along_u == 7 && along_v == 8);
+  for (size_t k = 0; k < 9; k++) {
+    HELD(kiln_slopes(1, 1, flat, 1, s, ONE, along[k % 3], along[k / 3], &watts, &along_u, &along_v) == KILN_DONE);
+    HELD(fabs(watts - 500.0 * (double)(k % 3)) <= ldexp(1, -30));
+    HELD(fabs(along_u - 125) <= ldexp(1, -20) && fabs(along_v) <= ldexp(1, -20));
+  }
+}
+
 /* "S, level 1 box 0,0 to 4,4: tree 4 4 4 1 and nine 0; 25 active", "least level 1, 4 nodes"; greatest level 1, as all
    of the sheet has it. On 2 by 1 the western half has level 1, the greatest, and the eastern half 0, the least. */
 static void box_inserted(void) {
@@ -281,6 +305,7 @@ static void files_written(void) {
 
 int main(void) {
   sheet_s();
+  slopes_of_s();
   box_inserted();
   east();
   coefficients_set();

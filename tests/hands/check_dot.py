@@ -15,7 +15,7 @@ from typing import Dict, List, Set, Tuple
 from counted import with_counts, without_counts
 from expected import POINT, ROOT
 from noted import noted
-from runs import GREATEST_SIZE, Run, differing, misused, unwritten
+from runs import GREATEST_SIZE, Run, differing, in_rust, misused, unwritten
 from rust_words import refusal_words
 
 import calls
@@ -33,7 +33,6 @@ NEEDED = """dot: three arguments are needed: TABLE U V
   TABLE   a table file
   U, V    the point, in steps of 1/128 cell: U along temperature, V along climb rate
 """
-NEEDED_IN_RUST = 'Error: "needs a table file, u and v"\n'
 # What the points must show: each level; the rule for shared edges where it decides the level, in each direction and at
 # a corner, and the step before such an edge; far edges, and their corner, where there is a dot.
 SHOWN = ("level 0", "level 1", "level 2", "level 3", "shared u", "shared v", "shared u and v", "before u", "before v",
@@ -146,17 +145,6 @@ def runs(room: Path) -> Tuple[List[Run], "Counter[str]"]:
     return made + misused("dot", NEEDED, str(room / "bench-s"), ("U", "V"), room), among
 
 
-# The same run of the Rust example: main shows a refusal, or what is needed, as an error, and ends with 1. None where an
-# argument is no number or no file, which the standard library words.
-def in_rust(run: Run) -> List[Run]:
-    if run.status == 0:
-        return [run]
-    if run.status == 255:
-        return [Run(run.arguments, "", NEEDED_IN_RUST, 1)] if run.errors == NEEDED else []
-    *lines, refusal = run.text.splitlines(keepends=True)
-    return [Run(run.arguments, "".join(lines), f"Error: {refusal}", 1)]
-
-
 # Whether docs/WHY.md tells of a dot where there is one, of none where there is none, and of equal watts where they are.
 def told_in_page() -> bool:
     refined, plain = (tablefile.judge((ROOT / f"tables/{name}.table").read_bytes()) for name in REFINED)
@@ -176,7 +164,7 @@ def main(programs: List[str]) -> int:
         due, among = runs(Path(room))
         numbers = {run.status for run in due}
         if rust:
-            due = [same for run in due for same in in_rust(run)]
+            due = [same for run in due for same in in_rust(run, NEEDED)]
         wrong = differing(programs, due)
         wrong += 0 if rust else unwritten(programs, "dot", str(ROOT / "tables/bench-s.table"), "1", "1")
     if not told_in_page():

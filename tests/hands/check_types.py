@@ -84,7 +84,8 @@ C = Language(
      (r"\*", ""), (r"\bsize_t w,\s*size_t h\b", "size_t h, size_t w"),
      (r"\bsize_t u,\s*size_t v\b", "size_t v, size_t u"),
      (r"\*note_offset,\s*size_t \*note_length\b", "*note_length, size_t *note_offset"),
-     (r"\*least,\s*uint8_t \*greatest\b", "*greatest, uint8_t *least")])
+     (r"\*least,\s*uint8_t \*greatest\b", "*greatest, uint8_t *least"),
+     (r"\*along_u,\s*double \*along_v\b", "*along_v, double *along_u")])
 RUST = Language(
     re.compile(r"\bfn (?P<name>kiln_\w+)\((?P<takes>[^()]*)\) -> (?P<returns>\w+);"), re.compile(r"//[^\n]*"),
     rust_parameter, {},
@@ -92,7 +93,8 @@ RUST = Language(
      (r"\bf64\b", "i64"), (r"\*const\b", "*mut"), (r"\*mut\b", "*const"), (r"\*(?:const|mut) ", ""),
      (r"\bw: usize, h: usize\b", "h: usize, w: usize"), (r"\bu: usize,\s*v: usize\b", "v: usize, u: usize"),
      (r"\bnote_offset: \*mut usize,\s*note_length\b", "note_length: *mut usize, note_offset"),
-     (r"\bleast: \*mut u8,\s*greatest\b", "greatest: *mut u8, least")])
+     (r"\bleast: \*mut u8,\s*greatest\b", "greatest: *mut u8, least"),
+     (r"\balong_u: \*mut f64,\s*along_v\b", "along_v: *mut f64, along_u")])
 LIBRARY = Language(
     re.compile(r'#\[no_mangle\]\s*pub extern "C" fn (?P<name>kiln_\w+)\((?P<takes>[^()]*)\) -> (?P<returns>\w+)'),
     re.compile(r"//[^\n]*"), library_parameter, {},
@@ -100,7 +102,8 @@ LIBRARY = Language(
      (r"&(?=\[)", "&mut "), (r"\[(?=\w+\])|(?<=\w)\]", ""), (r"\bw: usize,\s*h: usize\b", "h: usize, w: usize"),
      (r"\bu: usize,\s*v: usize\b", "v: usize, u: usize"),
      (r"\bnote_offset: &mut usize,\s*note_length\b", "note_length: &mut usize, note_offset"),
-     (r"\bleast: &mut u8,\s*greatest\b", "greatest: &mut u8, least")])
+     (r"\bleast: &mut u8,\s*greatest\b", "greatest: &mut u8, least"),
+     (r"\balong_u: &mut f64,\s*along_v\b", "along_v: &mut f64, along_u")])
 
 
 def rust_source() -> Path:

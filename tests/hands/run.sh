@@ -1,8 +1,8 @@
 #!/usr/bin/env bash
 # The library from C, C++ and Rust: what the archive needs and has; that C, Rust and the library agree on the types of
 # each call; every call on the bench sheet, plain and with a table in a struct; the levels under boxes and points; the
-# counts and the notes in files; the header's version and words; the examples, held to the evaluator; the Rust crate's
-# doc tests. All that is C is built by gcc and clang, as C99 and as C++11.
+# slopes and the arrow; the counts and the notes in files; the header's version and words; the examples, held to the
+# evaluator; the Rust crate's doc tests. All that is C is built by gcc and clang, as C99 and as C++11.
 #
 # Run as: tests/hands/run.sh
 set -euo pipefail
@@ -83,6 +83,7 @@ strict=(-O2 -pedantic -Wall -Wextra -Werror -Iinclude)
 builds=("gcc -std=c99 -x c" "clang -std=c99 -x c" "g++ -std=c++11 -x c++" "clang++ -std=c++11 -x c++")
 points=()
 dots=()
+arrows=()
 for build in "${builds[@]}"; do
   read -ra c <<<"$build"
   into=$room/${c[0]}
@@ -97,6 +98,7 @@ for build in "${builds[@]}"; do
   calls=$("$into/calls") || { echo "${c[0]}: $calls"; exit 1; }
   structs=$("$into/structs") || { echo "${c[0]}: $structs"; exit 1; }
   levels=$("$into/levels") || { echo "${c[0]}: $levels"; exit 1; }
+  slopes=$("$into/slopes") || { echo "${c[0]}: $slopes"; exit 1; }
   counts=$("$into/counts") || { echo "${c[0]}: $counts"; exit 1; }
   notes=$("$into/notes") || { echo "${c[0]}: $notes"; exit 1; }
   "$into/words" | diff "$room/words.expected" -
@@ -121,11 +123,13 @@ for build in "${builds[@]}"; do
   done
   points+=("$into/point")
   dots+=("$into/dot")
+  arrows+=("$into/arrow")
 done
 point=$(python3 tests/hands/check_point.py "${points[@]}") || { echo "$point"; exit 1; }
 dot=$(python3 tests/hands/check_dot.py "${dots[@]}") || { echo "$dot"; exit 1; }
+arrow=$(python3 tests/hands/check_arrow.py "${arrows[@]}") || { echo "$arrow"; exit 1; }
 
 tests/hands/rust.sh
 
-echo "hands: $types; with each of ${#builds[@]} compilers $calls; $structs; $levels; $counts; $notes; $point; $dot;" \
-  "examples as expected on ${#files[@]} files"
+echo "hands: $types; with each of ${#builds[@]} compilers $calls; $structs; $levels; $slopes; $counts; $notes;" \
+  "$point; $dot; $arrow; examples as expected on ${#files[@]} files"

@@ -6,16 +6,18 @@ from pathlib import Path
 from typing import List, NamedTuple, Sequence
 
 GREATEST_SIZE = 2**64 - 1
+NEEDED_IN_RUST = 'Error: "needs a table file, u and v"\n'
 NO_NUMBERS = ("", "-1", "+1", " 1", "1 ", "7.5", "1e2", "0x10", "seven", str(GREATEST_SIZE + 1), "9" * 40)
 
 
 class Run(NamedTuple):
-    """The arguments, and what the program must give."""
+    """The arguments, and what the program must give; texts that serve in place of the first, as bounds allow."""
 
     arguments: List[str]
     text: str
     errors: str
     status: int
+    others: Sequence[str] = ()
 
 
 def misused(program: str, needed: str, table: str, names: Sequence[str], room: Path) -> List[Run]:
@@ -32,13 +34,24 @@ def misused(program: str, needed: str, table: str, names: Sequence[str], room: P
     return made
 
 
+def in_rust(run: Run, needed: str) -> List[Run]:
+    """The same run of the Rust example that needs a table file, u and v: main shows a refusal, or what is needed, as an
+    error, and ends with 1. None where an argument is no number or no file, which the standard library words."""
+    if run.status == 0:
+        return [run]
+    if run.status == 255:
+        return [Run(run.arguments, "", NEEDED_IN_RUST, 1)] if run.errors == needed else []
+    *lines, refusal = run.text.splitlines(keepends=True)
+    return [Run(run.arguments, "".join(lines), f"Error: {refusal}", 1)]
+
+
 def differing(programs: Sequence[str], due: Sequence[Run]) -> int:
     """How many runs gave something else, each of them shown."""
     wrong = 0
     for program in programs:
         for run in due:
             got = subprocess.run([program, *run.arguments], capture_output=True, text=True, env={"LC_ALL": "C"})
-            if (got.stdout, got.stderr, got.returncode) != run[1:]:
+            if got.stdout not in (run.text, *run.others) or (got.stderr, got.returncode) != (run.errors, run.status):
                 wrong += 1
                 print(f"{program} {run.arguments}: expected {run[1:]}, got {got}")
     return wrong

@@ -114,6 +114,7 @@ done
 [ ${#seen[@]} -eq ${#words[@]} ] || fail "the examples were not refused with each of ${!words[*]}"
 around=$(python3 tests/hands/around.py "$examples/around") || fail "around differs"
 python3 tests/hands/check_dot.py --rust "$examples/dot" >"$room/dot" || fail "dot differs" "$room/dot"
+python3 tests/hands/check_arrow.py --rust "$examples/arrow" >"$room/arrow" || fail "arrow differs" "$room/arrow"
 
 # A copy of the crate with nothing beside it: no archive, no tables.
 apart=$room/apart
@@ -153,4 +154,5 @@ KILN_LIB_DIR=../lib copied build --offline --locked --examples || fail "a folder
 missing_is_told "after one with it"
 
 echo "hands: Rust crate: $tests tests and $doc_tests doc tests passed, $layout, $lints;" \
-  "examples as expected on ${#files[@]} files; $around; $(cat "$room/dot"); archive found where KILN_LIB_DIR says"
+  "examples as expected on ${#files[@]} files; $around; $(cat "$room/dot"); $(cat "$room/arrow");" \
+  "archive found where KILN_LIB_DIR says"

@@ -65,11 +65,12 @@ static int room_b_untouched(void) {
   return same;
 }
 
-/* "S at (64, 5): numerator 500 x D"; its corners are 0 at u 0 and 1,000 at u 128. */
+/* "S at (64, 5): numerator 500 x D"; its corners are 0 at u 0 and 1,000 at u 128, so an eighth of a cell is 125. */
 static void s_is_read(struct kiln_table *s) {
   uint8_t file[S_BYTES];
   struct kiln_table other = {9, 9, NULL, 9, NULL, 9};
   struct kiln_room few = room_b, short_tree = room_b;
+  struct kiln_watts_and_slopes slopes = {77, 78, 79};
   int64_t numerator = 77, figure = 77;
   double watts = 77;
   few.numbers_len = ONE - 1;
@@ -92,6 +93,10 @@ static void s_is_read(struct kiln_table *s) {
   HELD(kiln_table_watts(s, at(64, 5), &watts) == KILN_DONE && fabs(watts - 500) <= ldexp(1, -30));
   watts = 77;
   HELD(kiln_table_watts(s, at(0, 129), &watts) == KILN_POINT && watts == 77);
+  HELD(kiln_table_slopes(s, at(0, 129), &slopes) == KILN_POINT);
+  HELD(slopes.watts == 77 && slopes.along_u == 78 && slopes.along_v == 79);
+  HELD(kiln_table_slopes(s, at(64, 5), &slopes) == KILN_DONE && fabs(slopes.watts - 500) <= ldexp(1, -30));
+  HELD(fabs(slopes.along_u - 125) <= ldexp(1, -20) && fabs(slopes.along_v) <= ldexp(1, -20));
   HELD(kiln_table_display(s, at(0, 128), &figure) == KILN_DONE && figure == 0);
   HELD(kiln_table_display(s, at(128, 0), &figure) == KILN_DONE && figure == 1000);
   HELD(kiln_table_display(s, at(0, 129), &figure) == KILN_POINT && figure == 1000);
@@ -277,10 +282,13 @@ static void readings_beside_plain(const struct kiln_table *table) {
   for (size_t u = 0; u <= 400; u += 25)
     for (size_t v = 0; v <= 270; v += 27) {
       int64_t exact[2] = {7, 7}, figure[2] = {7, 7};
-      double watts[2] = {7, 7};
+      double watts[2] = {7, 7}, plain[3] = {7, 7, 7};
+      struct kiln_watts_and_slopes slopes = {7, 7, 7};
       size_t cost[2] = {7, 7}, tariff = 370 * u;
       same &= kiln_table_exact(&t, at(u, v), &exact[0]) == kiln_exact(PLAIN(t), u, v, &exact[1]);
       same &= kiln_table_watts(&t, at(u, v), &watts[0]) == kiln_watts(PLAIN(t), u, v, &watts[1]);
+      same &= kiln_table_slopes(&t, at(u, v), &slopes) == kiln_slopes(PLAIN(t), u, v, plain, plain + 1, plain + 2);
+      same &= slopes.watts == plain[0] && slopes.along_u == plain[1] && slopes.along_v == plain[2];
       same &= kiln_table_display(&t, at(u, v), &figure[0]) == kiln_display(PLAIN(t), u, v, &figure[1]);
       same &= kiln_table_cost(&t, at(u, v), tariff, &cost[0]) == kiln_cost(PLAIN(t), u, v, tariff, &cost[1]);
       same &= exact[0] == exact[1] && figure[0] == figure[1] && watts[0] == watts[1] && cost[0] == cost[1];
