@@ -1,6 +1,7 @@
 -- The codes and values of an answer that a call is known to have given.
 use mathlib.Core.Path.{_≡_, refl, sym, ap, ap₂, _∙_, subst}
 use mathlib.Core.Bool.{cond}
+use mathlib.Core.List.{List}
 use Prim.Native.Nat.{ℕ, zero, suc}
 use lib.IntN.{ℤ}
 use lib.Ieee.{Float}
@@ -8,6 +9,7 @@ use mir.Syntax.{w64}
 use mir.Val.{SFits, toZ, ofZ}
 use mir.ValLaws.{toZ-ofZ}
 use Rattle.surface.specs.Calls.{Answer, refused, gives, answer, LevelsUnder}
+use Rattle.surface.specs.Enquiry.{Slip}
 use Rattle.surface.specs.FloatReading.{FloatMeets}
 use Rattle.surface.specs.Slopes.{ExactSlopes, FloatSlopes, SlopesMeet}
 use Rattle.surface.specs.Note.{NotePart}
@@ -16,7 +18,8 @@ use Rattle.answers.specs.Answers.{lengthAnswer, noteTold}
 use Rattle.answers.specs.declared.Note.{Note}
 use Rattle.answers.specs.declared.Length.{Length}
 use Rattle.answers.specs.declared.Length.the-variants.{Bytes, Refused}
-use Rattle.answers.specs.Codes.{codeOf, NumberTold, LeastTold, WattsAfter, SlopesAfter, FileTold, NoteAfter}
+use Rattle.answers.specs.Codes.{codeOf, NumberTold, LeastTold, activeOf, SlipTold, WattsAfter, SlopesAfter}
+use Rattle.answers.specs.Codes.{FileTold, NoteAfter}
 
 pub told-levels : {o : Answer LevelsUnder} (l g v a b c : ℕ)
     → gives (record { least = l; greatest = g; visited = v }) ≡ o → LeastTold o 0 a l b g c v
@@ -24,6 +27,14 @@ told-levels l g v a b c e = subst (λ o. LeastTold o 0 a l b g c v) e (refl, ref
 
 pub told-refused : {o : Answer LevelsUnder} (n a b c : ℕ) → refused n ≡ o → LeastTold o n a a b b c c
 told-refused n a b c e = subst (λ o. LeastTold o n a a b b c c) e (refl, refl, refl, refl)
+
+pub slip-given : {o : Answer Slip} (s : Slip) (l v : ℕ) (active : List ℕ) → gives s ≡ o
+    → SlipTold o 0 l (s .treeLength) active (activeOf s) v (s .visited)
+slip-given s l v active e =
+    subst (λ o. SlipTold o 0 l (s .treeLength) active (activeOf s) v (s .visited)) e (refl, refl, refl, refl)
+
+pub slip-refused : {o : Answer Slip} (n l v : ℕ) (active : List ℕ) → refused n ≡ o → SlipTold o n l l active active v v
+slip-refused n l v active e = subst (λ o. SlipTold o n l l active active v v) e (refl, refl, refl, refl)
 
 pub code-done : {A : Type 0} {o : Answer A} (a : A) → gives a ≡ o → 0 ≡ codeOf o
 code-done a e = subst (λ o. 0 ≡ codeOf o) e refl

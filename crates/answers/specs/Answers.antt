@@ -3,6 +3,7 @@ use Prim.Native.Nat.{ℕ}
 use lib.IntN.{ℤ}
 use lib.Ieee.{Float}
 use Rattle.surface.specs.Calls.{Answer, refused, gives, LevelsUnder}
+use Rattle.surface.specs.Enquiry as enquiry
 use Rattle.surface.specs.Slopes.{FloatSlopes}
 use Rattle.surface.specs.TableFile.{FileResult}
 use Rattle.surface.specs.Note.{NotePart}
@@ -12,6 +13,9 @@ use Rattle.answers.specs.declared.Length as LengthCases
 use Rattle.answers.specs.declared.Length.{Length}
 use Rattle.answers.specs.declared.Least as LeastCases
 use Rattle.answers.specs.declared.Least.{Least}
+use Rattle.answers.specs.declared.Slip.{Slip}
+use Rattle.answers.specs.declared.Enquiry as EnquiryCases
+use Rattle.answers.specs.declared.Enquiry.{Enquiry}
 use Rattle.answers.specs.declared.Exact as ExactCases
 use Rattle.answers.specs.declared.Exact.{Exact}
 use Rattle.answers.specs.declared.Reading as ReadingCases
@@ -38,6 +42,24 @@ lengthAnswer (LengthCases.the-variants.Refused n) = refused n
 abbrev pub leastAnswer : Least → Answer LevelsUnder
 leastAnswer (LeastCases.the-variants.Levels l g v) = gives (record { least = l; greatest = g; visited = v })
 leastAnswer (LeastCases.the-variants.Refused n) = refused n
+
+-- the slip of document 02 that a slip of the code is
+abbrev pub slipTold : Slip → enquiry.Slip
+slipTold s =
+    record {
+      box = record { u0 = s .u0; v0 = s .v0; u1 = s .u1; v1 = s .v1 };
+      level = s .level;
+      treeLength = s .length;
+      active0 = s .active0;
+      active1 = s .active1;
+      active2 = s .active2;
+      active3 = s .active3;
+      visited = s .visited;
+    }
+
+abbrev pub enquiryAnswer : Enquiry → Answer enquiry.Slip
+enquiryAnswer (EnquiryCases.the-variants.Given s) = gives (slipTold s)
+enquiryAnswer (EnquiryCases.the-variants.Refused n) = refused n
 
 abbrev pub exactAnswer : Exact → Answer ℤ
 exactAnswer (ExactCases.the-variants.Numerator n) = gives n

@@ -1,12 +1,15 @@
 -- What an answer is for another language: a refusal number, 0 for none, and values written through parameters.
 use mathlib.Core.Path.{_≡_}
 use mathlib.Core.Bool.{cond}
-use mathlib.Core.List.{List}
+use mathlib.Core.List.{List, [], _∷_}
 use Prim.Native.Nat.{ℕ, _^_}
 use lib.IntN.{ℤ}
 use lib.Ieee.{Float}
+use lib.ListN.{getD}
+use Rattle.surface.specs.Sheet.{Box}
 use Rattle.surface.specs.Truncation.{D}
 use Rattle.surface.specs.Calls.{Answer, refused, gives, LevelsUnder, Written, Done}
+use Rattle.surface.specs.Enquiry.{Slip}
 use Rattle.surface.specs.FloatReading.{Near}
 use Rattle.surface.specs.Slopes.{ExactSlopes, FloatSlopes, NearSlopes}
 use Rattle.surface.specs.Note.{NotePart}
@@ -47,6 +50,33 @@ LeastTold o code least₀ least greatest₀ greatest visited₀ visited =
     × (least ≡ orGiven leastOf o least₀)
     × (greatest ≡ orGiven greatestOf o greatest₀)
     × (visited ≡ orGiven visitedOf o visited₀)
+
+-- the active functions of a slip, levels 0 to 3
+abbrev pub activeOf : Slip → List ℕ
+activeOf s = s .active0 ∷ s .active1 ∷ s .active2 ∷ s .active3 ∷ []
+
+-- an enquiry's code, and what stands at its parameters: the new tree's length, the active functions of levels 0 to 3
+-- and the nodes visited; box and level are those that it was lent
+abbrev pub SlipTold : Answer Slip → ℕ → ℕ → ℕ → List ℕ → List ℕ → ℕ → ℕ → Type 0
+SlipTold o code length₀ length active₀ active visited₀ visited =
+    (code ≡ codeOf o)
+    × (length ≡ orGiven (λ s. s .treeLength) o length₀)
+    × (active ≡ orGiven activeOf o active₀)
+    × (visited ≡ orGiven (λ s. s .visited) o visited₀)
+
+-- the slip that is lent as its numbers
+abbrev pub lentSlip : Box → ℕ → ℕ → List ℕ → ℕ → Slip
+lentSlip box level length active visited =
+    record {
+      box = box;
+      level = level;
+      treeLength = length;
+      active0 = getD active 0 0;
+      active1 = getD active 1 0;
+      active2 = getD active 2 0;
+      active3 = getD active 3 0;
+      visited = visited;
+    }
 
 -- the f64 that stands at a parameter afterwards: what stood there, or watts within 2^-30 of the exact reading
 abbrev pub WattsAfter : Answer ℤ → Float → Float → Type 0

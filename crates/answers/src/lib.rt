@@ -22,6 +22,28 @@ pub enum Least {
     Refused(u8),
 }
 
+// Document 02: "a slip: box, level, new tree length, active functions of each level over the new tree, and the tree
+// nodes that one least-level call over the box will visit in the new tree".
+pub struct Slip {
+    pub u0: usize,
+    pub v0: usize,
+    pub u1: usize,
+    pub v1: usize,
+    pub level: usize,
+    pub length: usize,
+    pub active0: usize,
+    pub active1: usize,
+    pub active2: usize,
+    pub active3: usize,
+    pub visited: usize,
+}
+
+// The enquiry gives a slip.
+pub enum Enquiry {
+    Given(Slip),
+    Refused(u8),
+}
+
 // The exact reading: a numerator over D.
 pub enum Exact {
     Numerator(i64),

@@ -33,7 +33,7 @@ use Rattle.surface.proofs.Least.{leastUnder-le-3, le-leastWhere}
 use Rattle.surface.proofs.TableLaws.{formed-tree, place-in-slice, acceptable}
 use Rattle.surface.proofs.Around.{bracketed}
 use Rattle.bench.proofs.BenchLaws.{eqZ, columns-by, everywhere-by, zero-coefficient, activity-is, tree-gives}
-use Rattle.bench.proofs.BenchLaws.{read, last-point, wide-least, wide-insert}
+use Rattle.bench.proofs.BenchLaws.{read, last-point, wide-least, wide-enquiry, wide-commit}
 
 -- ---- every active coefficient 700 watts
 
@@ -191,8 +191,9 @@ bench-sheet =
       );
       wideBox = (
         wide-least,
-        wide-insert,
+        wide-enquiry,
+        wide-commit,
         wide-least flat refl,
-        wide-insert flat S 1 (replicate 14 9) (replicate 211 (pos 9)) refl,
+        wide-enquiry flat S 1 refl,
       );
     }

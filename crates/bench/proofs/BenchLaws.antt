@@ -17,9 +17,10 @@ use Rattle.surface.specs.Truncation.{D}
 use Rattle.surface.specs.Patch.{evaluated, stopLevel}
 use Rattle.surface.specs.Table.{levels, places, place, coefficients, regionCause, tableCause, everywhere, Acceptable}
 use Rattle.surface.specs.Table.{tableReading}
-use Rattle.surface.specs.Calls.{Answer, refused, gives, insertCause, insertOutcome, setCause, setOutcome}
+use Rattle.surface.specs.Calls.{Answer, refused, gives, setCause, setOutcome}
 use Rattle.surface.specs.Calls.{activityBytes, activityCause, activityOutcome, leastOutcome, readingCause}
 use Rattle.surface.specs.Calls.{exactOutcome, wholeWatts, displayOutcome, costOf, costOutcome}
+use Rattle.surface.specs.Enquiry.{Slip, enquiryOutcome, commitCause, commitOutcome}
 use Rattle.surface.specs.FloatReading.{Near, Meets}
 use Rattle.surface.specs.Slopes.{NearSlopes, tableSlopes, slopesOutcome}
 use Rattle.bench.specs.Bench.{zeros, box, Columns, ActivityIs, TreeGives, LastPoint}
@@ -97,13 +98,14 @@ near-given {A} {B} near o a given e m = go given (subst (λ k. Meets near k give
 
 -- cause 1 or 2 comes before all that a call is lent beside the tree
 pub tree-gives : (W H : ℕ) (t : List ℕ) (n : ℕ) → regionCause W H t ≡ suc n → TreeGives W H t (suc n)
-unfolding leastOutcome activityOutcome activityCause insertOutcome insertCause setOutcome setCause exactOutcome
-    displayOutcome costOutcome readingCause slopesOutcome
+unfolding leastOutcome activityOutcome activityCause enquiryOutcome commitOutcome commitCause setOutcome setCause
+    exactOutcome displayOutcome costOutcome readingCause slopesOutcome
 tree-gives W H t n e =
     record {
       least = λ b. rw e;
       activity = λ L out. rw e;
-      insert = λ cs b level treeOut numbersOut. rw (table cs);
+      enquiry = λ cs b level. rw (table cs);
+      commit = λ cs s treeOut numbersOut. rw (table cs);
       set = λ cs L i j number. rw (table cs);
       exact = exact;
       watts = λ cs u v given m.
@@ -151,9 +153,14 @@ pub wide-least : (t : List ℕ) → regionCause 1 1 t ≡ 0 → leastOutcome 1 1
 unfolding leastOutcome
 wide-least t e = rw e
 
-pub wide-insert : (t : List ℕ) (cs : List ℤ) (level : ℕ) (treeOut : List ℕ) (numbersOut : List ℤ)
-    → Acceptable 1 1 t cs
-    → insertOutcome 1 1 t cs (box 0 0 5 4) level treeOut numbersOut
+pub wide-enquiry : (t : List ℕ) (cs : List ℤ) (level : ℕ) → Acceptable 1 1 t cs
+    → enquiryOutcome 1 1 t cs (box 0 0 5 4) level ≡ refused 7
+unfolding enquiryOutcome
+wide-enquiry t cs level acc = rw acc
+
+pub wide-commit : (t : List ℕ) (cs : List ℤ) (s : Slip) (treeOut : List ℕ) (numbersOut : List ℤ) → Acceptable 1 1 t cs
+    → s .box ≡ box 0 0 5 4
+    → commitOutcome 1 1 t cs s treeOut numbersOut
     ≡ record { result = refused 7; tree = treeOut; numbers = numbersOut }
-unfolding insertOutcome insertCause
-wide-insert t cs level treeOut numbersOut acc = rw acc
+unfolding commitOutcome commitCause
+wide-commit t cs s treeOut numbersOut acc e = rw (acc, e)

@@ -14,6 +14,7 @@ use Rattle.surface.specs.Table.{tableCause}
 use Rattle.surface.specs.Calls.{freshOutcome, newTree, newCoefficients, insertCause, insertOutcome, setCause}
 use Rattle.surface.specs.Calls.{setOutcome, activityBytes, activityCause, activityOutcome, leastOutcome}
 use Rattle.surface.specs.Calls.{readingCause, exactOutcome, displayOutcome, costOutcome}
+use Rattle.surface.specs.Enquiry.{slipOf, commitCause, commitOutcome}
 use Rattle.surface.specs.Fields.{field, allWithin}
 use Rattle.surface.specs.TableFile.{sidesField, treeField, levelField, levelFields, fileContents, fileOutcome}
 use Rattle.surface.specs.TableFile.{countsAgree, countsField, levelBody, countsBody, fileWith}
@@ -33,17 +34,15 @@ unfolding leastOutcome regionCause parse wellFormed levels levelAt least greates
 visited = refl
 
 pub inserted : Inserted
-unfolding insertOutcome insertCause newTree newCoefficients bytes regionTree carried weight sum tableCause regionCause
-    withinLimits passiveZero every leastUnder least eighths levels levelAt parse wellFormed start sliceFrom
-    coefficients
-    tableFrom rowsFrom
+unfolding commitOutcome commitCause slipOf newTree newCoefficients bytes regionTree carried weight sum tableCause
+    regionCause withinLimits passiveZero every leastUnder least eighths levels levelAt parse wellFormed start sliceFrom
+    coefficients tableFrom rowsFrom activeCount activeInRow total count visits
 inserted = refl
 
 pub two-by-one : TwoByOne
-unfolding insertOutcome insertCause newTree newCoefficients bytes regionTree carried weight sum tableCause regionCause
-    withinLimits passiveZero every leastUnder least eighths levels levelAt parse wellFormed start sliceFrom
-    coefficients
-    tableFrom rowsFrom leastOutcome greatest visits
+unfolding commitOutcome commitCause slipOf newTree newCoefficients bytes regionTree carried weight sum tableCause
+    regionCause withinLimits passiveZero every leastUnder least eighths levels levelAt parse wellFormed start sliceFrom
+    coefficients tableFrom rowsFrom activeCount activeInRow total count visits leastOutcome greatest
 two-by-one = (refl, refl)
 
 -- ---- further cases

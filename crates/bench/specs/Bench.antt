@@ -12,8 +12,9 @@ use Rattle.surface.specs.Sheet.{Box, goodSide, functions, onSheet}
 use Rattle.surface.specs.Support.{active, activeCount}
 use Rattle.surface.specs.Truncation.{D}
 use Rattle.surface.specs.Table.{levels, places, coefficients, regionCause, Acceptable, tableReading}
-use Rattle.surface.specs.Calls.{Answer, refused, gives, insertOutcome, setOutcome, index, activityOutcome}
+use Rattle.surface.specs.Calls.{Answer, refused, gives, setOutcome, index, activityOutcome}
 use Rattle.surface.specs.Calls.{leastOutcome, exactOutcome, displayOutcome, costOutcome, wholeWatts, costOf}
+use Rattle.surface.specs.Enquiry.{Slip, enquiryOutcome, commitOutcome}
 use Rattle.surface.specs.FloatReading.{Near, FloatMeets}
 use Rattle.surface.specs.Slopes.{FloatSlopes, NearSlopes, tableSlopes, slopesOutcome, SlopesMeet}
 
@@ -68,6 +69,24 @@ box p q r s = record { u0 = p; v0 = q; u1 = r; v1 = s }
 abbrev pub refined : List ℕ
 refined = 4 ∷ 4 ∷ 4 ∷ 1 ∷ replicate 9 0
 
+-- A slip of a box and a level: the new tree's length, the active functions of levels 0 to 3, and the nodes visited.
+abbrev pub slip : Box → ℕ → ℕ → ℕ → ℕ → ℕ → ℕ → ℕ → Slip
+slip b level length a0 a1 a2 a3 visited =
+    record {
+      box = b;
+      level = level;
+      treeLength = length;
+      active0 = a0;
+      active1 = a1;
+      active2 = a2;
+      active3 = a3;
+      visited = visited;
+    }
+
+-- "S, level 1 box 0,0 to 4,4: tree 4 4 4 1 and nine 0; 25 active", and of that tree "4 nodes"
+abbrev pub slipS : Slip
+slipS = slip (box 0 0 4 4) 1 13 0 25 0 0 4
+
 -- ---- what a line says of a table
 
 -- "columns ..., equal in all rows": function (a, b) of level L has the a-th coefficient of the row, whatever b is.
@@ -95,8 +114,9 @@ ActivityIs W H t L bytes =
 pub record TreeGives (W H : ℕ) (t : List ℕ) (n : ℕ) : Type 0 where
   pub least : (b : Box) → leastOutcome W H t b ≡ refused n
   pub activity : (L : ℕ) (out : List ℕ) → activityOutcome W H t L out ≡ record { result = refused n; after = out }
-  pub insert : (cs : List ℤ) (b : Box) (level : ℕ) (treeOut : List ℕ) (numbersOut : List ℤ)
-      → insertOutcome W H t cs b level treeOut numbersOut
+  pub enquiry : (cs : List ℤ) (b : Box) (level : ℕ) → enquiryOutcome W H t cs b level ≡ refused n
+  pub commit : (cs : List ℤ) (s : Slip) (treeOut : List ℕ) (numbersOut : List ℤ)
+      → commitOutcome W H t cs s treeOut numbersOut
       ≡ record { result = refused n; tree = treeOut; numbers = numbersOut }
   pub set : (cs : List ℤ) (L : ℕ) (i j number : ℤ)
       → setOutcome W H t cs L i j number ≡ record { result = refused n; after = cs }
@@ -130,11 +150,11 @@ abbrev pub NextCorner : Type 0
 NextCorner =
     OnlyOne second (negℤ (pos 2)) (negℤ (pos 2)) × (exactOutcome 1 1 flat second 0 0 ≡ gives (pos (2 ^ 46)))
 
--- "S, level 1 box 0,0 to 4,4: tree 4 4 4 1 and nine 0", 13 bytes, which the call returns; the lent tree output has a
+-- "S, level 1 box 0,0 to 4,4: tree 4 4 4 1 and nine 0", 13 bytes, which the commit returns; the lent tree output has a
 -- byte more, which stays.
 abbrev pub Inserted : Type 0
 Inserted =
-    insertOutcome 1 1 flat S (box 0 0 4 4) 1 (replicate 14 9) (replicate 211 (pos 9))
+    commitOutcome 1 1 flat S slipS (replicate 14 9) (replicate 211 (pos 9))
     ≡ record { result = gives 13; tree = refined ++ (9 ∷ []); numbers = carriedS }
 
 -- "columns −32,000, 0, 32,000, 64,000, 96,000": of level 1; the other levels' places hold 0, as their slice shows.
@@ -154,10 +174,13 @@ AllOfLevelOne =
 abbrev pub Visited : Type 0
 Visited = leastOutcome 1 1 refined (box 0 0 4 4) ≡ gives (record { least = 1; greatest = 1; visited = 4 })
 
--- "2 by 1, the same box": the insertion; "Box 0,0 to 8,4: least level 0, 5 nodes"
+-- "2 by 1, the same box: 16 active at level 0, 10 at level 1": the commit; "Box 0,0 to 8,4: least level 0, 5 nodes"
+abbrev pub slipTwoByOne : Slip
+slipTwoByOne = slip (box 0 0 4 4) 1 13 16 10 0 0 4
+
 abbrev pub TwoByOne : Type 0
 TwoByOne =
-    (insertOutcome 2 1 flat flat700 (box 0 0 4 4) 1 (replicate 13 9) (replicate 341 (pos 9))
+    (commitOutcome 2 1 flat flat700 slipTwoByOne (replicate 13 9) (replicate 341 (pos 9))
     ≡ record { result = gives 13; tree = refined; numbers = level700 })
     × (leastOutcome 2 1 refined (box 0 0 8 4) ≡ gives (record { least = 0; greatest = 1; visited = 5 }))
 
@@ -228,17 +251,19 @@ LastPoints =
     × (exactOutcome 1 1 flat S 128 5 ≡ gives (pos (1000 * D)))
     × (exactOutcome 1 1 flat S 129 5 ≡ refused 6)
 
--- "Box 0,0 to 5,4 gives 7": the least level of every tree of the form, and insertion into every acceptable table,
--- whatever the level and the outputs, which stay
+-- "Box 0,0 to 5,4 gives 7": the least level of every tree of the form; of every acceptable table the enquiry, whatever
+-- the level, and the commit, whatever else the slip tells and whatever the outputs are, which stay
 abbrev pub WideBox : Type 0
 WideBox =
     ((t : List ℕ) → regionCause 1 1 t ≡ 0 → leastOutcome 1 1 t (box 0 0 5 4) ≡ refused 7)
-    × ((t : List ℕ) (cs : List ℤ) (level : ℕ) (treeOut : List ℕ) (numbersOut : List ℤ) → Acceptable 1 1 t cs
-    → insertOutcome 1 1 t cs (box 0 0 5 4) level treeOut numbersOut
+    × ((t : List ℕ) (cs : List ℤ) (level : ℕ) → Acceptable 1 1 t cs
+    → enquiryOutcome 1 1 t cs (box 0 0 5 4) level ≡ refused 7)
+    × ((t : List ℕ) (cs : List ℤ) (s : Slip) (treeOut : List ℕ) (numbersOut : List ℤ) → Acceptable 1 1 t cs
+    → s .box ≡ box 0 0 5 4
+    → commitOutcome 1 1 t cs s treeOut numbersOut
     ≡ record { result = refused 7; tree = treeOut; numbers = numbersOut })
     × (leastOutcome 1 1 flat (box 0 0 5 4) ≡ refused 7)
-    × (insertOutcome 1 1 flat S (box 0 0 5 4) 1 (replicate 14 9) (replicate 211 (pos 9))
-    ≡ record { result = refused 7; tree = replicate 14 9; numbers = replicate 211 (pos 9) })
+    × (enquiryOutcome 1 1 flat S (box 0 0 5 4) 1 ≡ refused 7)
 
 -- The table.
 pub record BenchSheet : Type 0 where

@@ -1,5 +1,6 @@
 -- Further cases, for what the bench sheet leaves open: each would tell a misreading of document 01 from the words.
 -- Values that are not plain in the document were worked by an unrelated evaluator with fractions (tests/evaluator).
+-- Cases of `insertOutcome` are of an enquiry and a commit of its slip (surface's Slips, InsertsAsBefore).
 use mathlib.Core.Path.{_≡_}
 use mathlib.Core.Bool.{true}
 use mathlib.Core.List.{List, [], _∷_, _++_}
@@ -86,7 +87,7 @@ NewTree =
     × (insertOutcome 1 1 t17 (zeros 211) (box 0 0 4 4) 4 [] (pos 7 ∷ []) .result ≡ refused 8)
     × (insertOutcome 1 1 t17 (zeros 211) (box 2 0 2 4) 4 [] (pos 7 ∷ []) .result ≡ refused 7)
 
--- "level not 1 to 3 (insert) or 0 to 3 (set, activity)": insert refuses level 0.
+-- "level not 1 to 3 (insert) or 0 to 3 (set, activity)": an insertion of level 0 is refused.
 abbrev pub LevelZero : Type 0
 LevelZero =
     insertOutcome 1 1 flat (zeros 211) (box 0 0 4 4) 0 (replicate 13 9) (replicate 211 (pos 7))

@@ -4,15 +4,16 @@ use Prim.Native.Nat.{ℕ, zero, suc}
 use lib.IntN.{ℤ}
 use lib.ListN.{length}
 use Rattle.surface.specs.Table.{tableReading}
-use Rattle.surface.specs.Calls.{gives, answer, newTree, insertCause, insertOutcome, readingCause, exactOutcome}
-use Rattle.surface.specs.Demands.{Insertion, Contents, left, outcomeOf, Step, insertion, afterStep}
+use Rattle.surface.specs.Calls.{gives, answer, newTree, readingCause, exactOutcome}
+use Rattle.surface.specs.Enquiry.{commitCause, commitOutcome}
+use Rattle.surface.specs.Demands.{Commit, Contents, left, outcomeOf, Step, enquiry, commit, afterStep}
 use Rattle.surface.proofs.Demands.{linear-readings, bracketed-readings}
 use Rattle.demands.specs.DemandThree.{standing, ReadingStays}
 use Rattle.demands.proofs.Theorem.{list-moves-nothing}
 use Rattle.answers.specs.Codes.{codeOf, orGiven, itself, NumberTold}
 use Rattle.answers.proofs.CodeLaws.{told}
 use Rattle.demands.specs.LinkedPromises.{KilnExactPromise}
-use Rattle.demands.specs.LinkedDemandThree.{LinkedMade, kilnInsert, LinkedAsPromised}
+use Rattle.demands.specs.LinkedDemandThree.{LinkedMade, kilnEnquire, kilnCommit, LinkedAsPromised}
 use Rattle.demands.specs.LinkedDemandThree.{leftByLinked, LinkedReadingStays}
 use Rattle.demands.specs.LinkedDemandThree.{LinearOfLinked, BracketedOfLinked, LinkedListsMoveNothing}
 use Rattle.demands.specs.LinkedDemandThree.{LinkedDemandThree}
@@ -28,22 +29,24 @@ exact-given : (W H : ℕ) (c : Contents) (u v code : ℕ) (old n : ℤ) → Kiln
     → code ≡ 0 → exactOutcome W H (c .tree) (c .numbers) u v ≡ gives n
 exact-given W H c u v code old n p z = sym (exact-told W H c u v code old n p) ∙ ap (λ m. answer m n) z
 
-insert-told : (W H : ℕ) (c : Contents) (i : Insertion) (code old n : ℕ)
-    → NumberTold (outcomeOf W H c i .result) code old n → answer code n ≡ outcomeOf W H c i .result
-unfolding insertOutcome
-insert-told W H c i code old n p =
-    told (insertCause W H (c .tree) (c .numbers) (i .box) (i .level) (i .treeOut) (i .numbersOut))
-    (length (newTree (c .tree) (i .box) (i .level))) old n code p
+pub commit-told : (W H : ℕ) (c : Contents) (k : Commit) (code old n : ℕ)
+    → NumberTold (outcomeOf W H c k .result) code old n → answer code n ≡ outcomeOf W H c k .result
+unfolding commitOutcome
+commit-told W H c k code old n p =
+    told (commitCause W H (c .tree) (c .numbers) (k .slip) (k .treeOut) (k .numbersOut))
+    (length (newTree (c .tree) (k .slip .box) (k .slip .level))) old n code p
 
 -- one call leaves the table that its outcome does
 abbrev lentTo : LinkedMade → Step
-lentTo (kilnInsert m) = insertion (m .lent)
+lentTo (kilnEnquire m) = enquiry (m .lent)
+lentTo (kilnCommit m) = commit (m .lent)
 
-left-step : (W H : ℕ) (c : Contents) (m : LinkedMade) → LinkedAsPromised W H c m
+pub linked-left-step : (W H : ℕ) (c : Contents) (m : LinkedMade) → LinkedAsPromised W H c m
     → leftByLinked c m ≡ afterStep W H c (lentTo m)
-left-step W H c (kilnInsert m) p =
+linked-left-step W H c (kilnEnquire m) p = refl
+linked-left-step W H c (kilnCommit m) p =
     ap (λ r. left c r (m .tree) (m .numbers))
-    (insert-told W H c (m .lent) (m .code) (m .treeLength₀) (m .treeLength) (p .0))
+    (commit-told W H c (m .lent) (m .code) (m .treeLength₀) (m .treeLength) (p .0))
     ∙ ap₂ (left c (outcomeOf W H c (m .lent) .result)) (p .1) (p .2)
 
 linear : LinearOfLinked
@@ -82,7 +85,7 @@ stays-coded W H c u v code₀ code n₀ n s =
 
 lists : LinkedListsMoveNothing
 lists W H c ms acc k =
-    let all = list-moves-nothing W H (LinkedAsPromised W H) leftByLinked lentTo (left-step W H) c ms acc k in (
+    let all = list-moves-nothing W H (LinkedAsPromised W H) leftByLinked lentTo (linked-left-step W H) c ms acc k in (
       all .0,
       λ u v code₀ code old₀ n₀ old n p q.
           stays-coded W H c u v code₀ code n₀ n

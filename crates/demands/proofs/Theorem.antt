@@ -5,10 +5,11 @@ use Prim.Native.Nat.{ℕ}
 use lib.IntN.{ℤ}
 use Rattle.surface.specs.Table.{Acceptable, tableReading}
 use Rattle.surface.specs.Calls.{Answer, exactOutcome}
-use Rattle.surface.specs.Demands.{Contents, left, outcomeOf, Step, insertion, afterStep, afterAll}
+use Rattle.surface.specs.Demands as steps
+use Rattle.surface.specs.Demands.{Contents, left, outcomeOf, Step, afterStep, afterAll}
 use Rattle.surface.proofs.Demands.{reading-given, linear-readings, bracketed-readings, refinement-moves-no-reading}
 use Rattle.answers.specs.Answers.{exactAnswer}
-use Rattle.demands.specs.DemandThree.{Made, insert, MadeAsPromised, leftBy, Kept, standing, ReadingStays}
+use Rattle.demands.specs.DemandThree.{Made, enquire, commit, MadeAsPromised, leftBy, Kept, standing, ReadingStays}
 use Rattle.demands.specs.DemandThree.{LinearOfCalls, BracketedOfCalls, ListsMoveNothing, DemandThree}
 
 -- calls of one kind, each of which leaves the table of its outcome, leave as a list the table of all outcomes
@@ -48,10 +49,12 @@ list-moves-nothing W H keeps leaves lent one c ms acc k =
 
 -- one call leaves the table that its outcome does
 abbrev lentTo : Made → Step
-lentTo (insert m) = insertion (m .lent)
+lentTo (enquire m) = steps.enquiry (m .lent)
+lentTo (commit m) = steps.commit (m .lent)
 
-left-step : (W H : ℕ) (c : Contents) (m : Made) → MadeAsPromised W H c m → leftBy c m ≡ afterStep W H c (lentTo m)
-left-step W H c (insert m) p =
+pub left-step : (W H : ℕ) (c : Contents) (m : Made) → MadeAsPromised W H c m → leftBy c m ≡ afterStep W H c (lentTo m)
+left-step W H c (enquire m) p = refl
+left-step W H c (commit m) p =
     ap (λ r. left c r (m .tree) (m .numbers)) (p .0)
     ∙ ap₂ (left c (outcomeOf W H c (m .lent) .result)) (p .1) (p .2)
 

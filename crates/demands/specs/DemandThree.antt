@@ -1,4 +1,5 @@
--- Demand 3 of the calls: what answers of `exact` and lists of calls of `insert` keep, from the calls' promises alone.
+-- Demand 3 of the calls: what answers of `exact` and lists of calls of `enquire` and `commit` keep, from the calls'
+-- promises alone.
 use mathlib.Core.Path.{_≡_}
 use mathlib.Core.Bool.{true}
 use mathlib.Core.List.{List, [], _∷_}
@@ -8,11 +9,12 @@ use lib.ListN.{getD}
 use Rattle.surface.specs.Sheet.{onSheet}
 use Rattle.surface.specs.Table.{slots, Acceptable}
 use Rattle.surface.specs.Calls.{Answer, gives}
-use Rattle.surface.specs.Demands.{Insertion, Contents, left, SameRegions, Bracketed}
+use Rattle.surface.specs.Demands.{Asked, Commit, Contents, left, SameRegions, Bracketed}
+use Rattle.answers.specs.declared.Enquiry.{Enquiry}
 use Rattle.answers.specs.declared.Length.{Length}
 use Rattle.answers.specs.declared.Exact.{Exact}
 use Rattle.answers.specs.Answers.{lengthAnswer, exactAnswer}
-use Rattle.demands.specs.Promises.{InsertPromise, ExactPromise}
+use Rattle.demands.specs.Promises.{EnquirePromise, CommitPromise, ExactPromise}
 
 -- ---- linear
 
@@ -58,26 +60,35 @@ unfoldable pub standing : {M : Type 0} → (Contents → M → Contents) → Con
 standing leaves c [] = c
 standing leaves c (m ∷ ms) = standing leaves (leaves c m) ms
 
--- A call of `insert` that was made: "its own box, level and outputs, whatever those are", its answer, and what its
--- outputs then held.
-pub record InsertMade : Type 0 where
-  pub lent : Insertion
+-- A call of `enquire` that was made: its box and level, and its answer. What it was lent it was lent for reading.
+pub record EnquireMade : Type 0 where
+  pub lent : Asked
+  pub answer : Enquiry
+
+-- A call of `commit` that was made: document 02, "with whatever slip it is handed"; its outputs, "whatever those are",
+-- its answer, and what its outputs then held.
+pub record CommitMade : Type 0 where
+  pub lent : Commit
   pub answer : Length
   pub tree : List ℕ
   pub numbers : List ℤ
 
--- A call of the list, by its kind.
+-- A call of the list, by its kind: "enquiries and commits then take the place of insertions".
 pub data Made : Type 0 where
-  insert : InsertMade → Made
+  enquire : EnquireMade → Made
+  commit : CommitMade → Made
 
 -- It kept its promise, on the sheet W by H and the table c.
 abbrev pub MadeAsPromised : ℕ → ℕ → Contents → Made → Type 0
-MadeAsPromised W H c (insert m) = InsertPromise W H c (m .lent) (m .answer) (m .tree) (m .numbers)
+MadeAsPromised W H c (enquire m) = EnquirePromise W H c (m .lent) (m .answer)
+MadeAsPromised W H c (commit m) = CommitPromise W H c (m .lent) (m .answer) (m .tree) (m .numbers)
 
 -- "After an accepted insertion the table is the tree output up to the returned length, with the coefficients written;
--- after a refused one it is the table that was read."
+-- after a refused one it is the table that was read"; document 02: "after an enquiry, accepted or refused, the table is
+-- the one it read".
 abbrev pub leftBy : Contents → Made → Contents
-leftBy c (insert m) = left c (lengthAnswer (m .answer)) (m .tree) (m .numbers)
+leftBy c (enquire m) = c
+leftBy c (commit m) = left c (lengthAnswer (m .answer)) (m .tree) (m .numbers)
 
 -- What the exact reading at a point answers before a list that starts from the table c, and after it.
 pub record ReadingStays (W H : ℕ) (c : Contents) (u v : ℕ) (before after : Answer ℤ) : Type 0 where

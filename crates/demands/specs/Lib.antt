@@ -3,3 +3,4 @@ pub mod DemandThree
 pub mod LinkedPromises
 pub mod FilePromises
 pub mod LinkedDemandThree
+pub mod Slips

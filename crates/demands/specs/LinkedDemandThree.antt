@@ -1,5 +1,5 @@
--- Demand 3 of the calls that a controller links: what `kiln_exact` and lists of calls of `kiln_insert` keep, in their
--- codes, lengths and buffers, from their promises alone. A code is 0, or the refusal number.
+-- Demand 3 of the calls that a controller links: what `kiln_exact` and lists of calls of `kiln_enquire` and
+-- `kiln_commit` keep, in codes, lengths and buffers, from their promises alone. A code is 0, or the refusal number.
 use mathlib.Core.Path.{_≡_}
 use mathlib.Core.Bool.{true}
 use mathlib.Core.List.{List}
@@ -8,9 +8,9 @@ use lib.IntN.{ℤ, _+ℤ_, _*ℤ_}
 use Rattle.surface.specs.Sheet.{onSheet}
 use Rattle.surface.specs.Table.{Acceptable}
 use Rattle.surface.specs.Calls.{answer}
-use Rattle.surface.specs.Demands.{Insertion, Contents, left, Bracketed}
+use Rattle.surface.specs.Demands.{Asked, Commit, Contents, left, Bracketed}
 use Rattle.demands.specs.DemandThree.{Combined, Kept, standing}
-use Rattle.demands.specs.LinkedPromises.{KilnInsertPromise, KilnExactPromise}
+use Rattle.demands.specs.LinkedPromises.{KilnEnquirePromise, KilnCommitPromise, KilnExactPromise}
 
 -- "Then at every point the first's exact reading is a times the second's plus b times the third's."
 abbrev pub LinearOfLinked : Type 0
@@ -28,10 +28,22 @@ BracketedOfLinked =
     (W H : ℕ) (c : Contents) (u v code : ℕ) (old n : ℤ) → KilnExactPromise W H c u v code old n
     → code ≡ 0 → Bracketed W H (c .tree) (c .numbers) u v n
 
--- A call of `kiln_insert` that was made: "its own box, level and outputs, whatever those are", and what stood at the
--- length parameter; its code, what then stood there, and what its outputs then held.
-pub record LinkedInsert : Type 0 where
-  pub lent : Insertion
+-- A call of `kiln_enquire` that was made: its box and level, and what stood at its parameters for the slip's numbers;
+-- its code, and what then stood there.
+pub record LinkedEnquire : Type 0 where
+  pub lent : Asked
+  pub length₀ : ℕ
+  pub active₀ : List ℕ
+  pub visited₀ : ℕ
+  pub code : ℕ
+  pub length : ℕ
+  pub active : List ℕ
+  pub visited : ℕ
+
+-- A call of `kiln_commit` that was made: document 02, "with whatever slip it is handed"; its outputs, "whatever those
+-- are", and what stood at the length parameter; its code, what then stood there, and what its outputs then held.
+pub record LinkedCommit : Type 0 where
+  pub lent : Commit
   pub treeLength₀ : ℕ
   pub code : ℕ
   pub treeLength : ℕ
@@ -40,18 +52,24 @@ pub record LinkedInsert : Type 0 where
 
 -- A call of the list, by its kind.
 pub data LinkedMade : Type 0 where
-  kilnInsert : LinkedInsert → LinkedMade
+  kilnEnquire : LinkedEnquire → LinkedMade
+  kilnCommit : LinkedCommit → LinkedMade
 
 -- It kept its promise, on the sheet W by H and the table c.
 abbrev pub LinkedAsPromised : ℕ → ℕ → Contents → LinkedMade → Type 0
-LinkedAsPromised W H c (kilnInsert m) =
-    KilnInsertPromise W H c (m .lent) (m .code) (m .treeLength₀) (m .treeLength) (m .tree) (m .numbers)
+LinkedAsPromised W H c (kilnEnquire m) =
+    KilnEnquirePromise W H c (m .lent) (m .code) (m .length₀) (m .length) (m .active₀) (m .active) (m .visited₀)
+    (m .visited)
+LinkedAsPromised W H c (kilnCommit m) =
+    KilnCommitPromise W H c (m .lent) (m .code) (m .treeLength₀) (m .treeLength) (m .tree) (m .numbers)
 
 -- "After an accepted insertion the table is the tree output up to the returned length, with the coefficients written;
--- after a refused one it is the table that was read." It was accepted if its code is 0; the returned length is what
--- then stands at the length parameter.
+-- after a refused one it is the table that was read." A commit was accepted if its code is 0; the returned length is
+-- what then stands at the length parameter. Document 02: "after an enquiry, accepted or refused, the table is the one
+-- it read".
 abbrev pub leftByLinked : Contents → LinkedMade → Contents
-leftByLinked c (kilnInsert m) = left c (answer (m .code) (m .treeLength)) (m .tree) (m .numbers)
+leftByLinked c (kilnEnquire m) = c
+leftByLinked c (kilnCommit m) = left c (answer (m .code) (m .treeLength)) (m .tree) (m .numbers)
 
 -- The codes and numerators of the exact reading at a point, before a list that starts from the table c, and after it.
 pub record LinkedReadingStays (W H : ℕ) (c : Contents) (u v code₀ : ℕ) (n₀ : ℤ) (code : ℕ) (n : ℤ) : Type 0 where

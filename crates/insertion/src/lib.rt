@@ -1,96 +1,10 @@
-// The insertion of a box: reads one table and writes another. What is read is judged apart from the outputs, and the
-// new tree is made apart from the carrying.
-ghost use mathlib.Core.Path.{_≡_};
-ghost use Prim.Native.Nat.{_≤_};
-ghost use lib.ListN.{length};
-ghost use Rattle.surface.specs.Table.{slots, sliceOf};
-ghost use Rattle.surface.specs.Calls.{TableMeets, refinementCause};
-ghost use Rattle.demands.specs.Promises.{InsertPromise};
-ghost use Rattle.rows.specs.Rows.{levelRows, Nested};
-ghost use Rattle.boxes.specs.Boxes.{boxOf};
-ghost use Rattle.carry.specs.Carried.{CarriedFit};
-ghost use Rattle.answers.specs.Answers.{lengthAnswer};
-ghost use Rattle.insertion.specs.Refined.{overRows, refinedOutcome};
+// The enquiry and the commit: what inserting a box would give, and the insertion, which reads one table and writes
+// another.
+ghost use Rattle.demands.specs.Promises.{EnquirePromise, CommitPromise};
+ghost use Rattle.answers.specs.Answers.{slipTold};
 
-// The lowest cause of the table, the box and the level, or 0 with the table's regions.
-fn refinement_cause(
-    w: usize,
-    h: usize,
-    tree: &[u8],
-    numbers: &[i64],
-    b: boxes::Box,
-    level: usize,
-    rows: &mut [u32; 96],
-) -> u8
-    ensures { λ r. ⌜ (r ≡ refinementCause w h (now (tree .entry)) (now (numbers .entry)) (boxOf b) level)
-        × (r ≡ 0 → now (rows .exit) ≡ levelRows (now (tree .entry))) ⌝ }
-{
-    let refusal = table::cause::check(w, h, tree, numbers, rows);
-    if refusal != 0 {
-        return refusal;
-    }
-    let past = table::cause::box_cause(w, h, b);
-    if past != 0 {
-        return past;
-    }
-    if level < 1 {
-        return 8;
-    }
-    if 3 < level {
-        return 8;
-    }
-    0
-}
-
-// Carries coefficients over from one table's regions to finer ones: carried values, and 0 at passive places.
-fn carry_over(
-    numbers: &[i64],
-    rows: &[u32; 96],
-    new: &[u32; 96],
-    w: usize,
-    h: usize,
-    out: &mut [i64],
-)
-    requires { ⌜ (w ≤ 8) × (h ≤ 8) × (length (now numbers) ≡ slots w h) × (length (now out) ≡ slots w h)
-        × Nested (now rows) × Nested (now new) × CarriedFit w h (now rows) (now numbers) ⌝ }
-    ensures { λ _. ⌜ now (out .exit)
-        ≡ sliceOf w h (overRows w h (now (rows .entry)) (now (new .entry)) (now (numbers .entry))) ⌝ }
-{
-    carry::fill(numbers, rows, w, h, out);
-    passive::clear(out, new, w, h);
-}
-
-// Writes a table over new regions, whose tree is given, if both outputs have their lengths.
-fn write_refined(
-    w: usize,
-    h: usize,
-    numbers: &[i64],
-    rows: &[u32; 96],
-    new: &[u32; 96],
-    tree: &[u8],
-    tree_out: &mut [u8],
-    numbers_out: &mut [i64],
-) -> answers::Length
-    requires { ⌜ (w ≤ 8) × (h ≤ 8) × (length (now numbers) ≡ slots w h)
-        × Nested (now rows) × Nested (now new) × CarriedFit w h (now rows) (now numbers) ⌝ }
-    ensures { λ r. ⌜ TableMeets
-        (refinedOutcome w h (now (rows .entry)) (now (new .entry)) (now (numbers .entry)) (now (tree .entry))
-        (now («tree_out» .entry)) (now («numbers_out» .entry)))
-        (lengthAnswer r) (now («tree_out» .exit)) (now («numbers_out» .exit)) ⌝ }
-{
-    let n = tree.len();
-    let late = coefficients::outputs_cause(w, h, n, tree_out, numbers_out);
-    if late != 0 {
-        return answers::Length::Refused(late);
-    }
-    fields::put(tree, tree_out, 0);
-    carry_over(numbers, rows, new, w, h, numbers_out);
-    answers::Length::Bytes(n)
-}
-
-// Gives each quarter square in the box with corners (u0, v0) and (u1, v1) the greater of its old level and the one
-// named, and carries the coefficients over; returns the new tree's length.
-pub fn insert(
+// What the insertion of the box with corners (u0, v0) and (u1, v1) at a level would give, as a slip.
+pub fn enquire(
     w: usize,
     h: usize,
     tree: &[u8],
@@ -100,28 +14,61 @@ pub fn insert(
     u1: usize,
     v1: usize,
     level: usize,
+) -> answers::Enquiry
+    ensures { λ r. ⌜ EnquirePromise w h (record { tree = now (tree .entry); numbers = now (numbers .entry) })
+        (record { box = record { u0 = u0; v0 = v0; u1 = u1; v1 = v1 }; level = level }) r ⌝ }
+{
+    let mut rows = [0u32; 96];
+    let b = boxes::Box { u0, v0, u1, v1 };
+    let cause = refinement::refinement_cause(w, h, tree, numbers, b, level, &mut rows);
+    if cause != 0 {
+        return answers::Enquiry::Refused(cause);
+    }
+    let mut built = [0u8; 1365];
+    let n = regions::insert(&mut rows, b, level, &mut built);
+    let slip = slip::slip_of(w, h, &rows, &built[0..n], b, level);
+    answers::Enquiry::Given(slip)
+}
+
+// Inserts the slip's box if the slip is the one that the table gives: each quarter square in the box gets the greater
+// of its old level and the slip's, and the coefficients are carried over; returns the new tree's length.
+pub fn commit(
+    w: usize,
+    h: usize,
+    tree: &[u8],
+    numbers: &[i64],
+    slip: answers::Slip,
     tree_out: &mut [u8],
     numbers_out: &mut [i64],
 ) -> answers::Length
-    ensures { λ r. ⌜ InsertPromise w h (record { tree = now (tree .entry); numbers = now (numbers .entry) })
+    ensures { λ r. ⌜ CommitPromise w h (record { tree = now (tree .entry); numbers = now (numbers .entry) })
         (record {
-          box = record { u0 = u0; v0 = v0; u1 = u1; v1 = v1 };
-          level = level;
+          slip = slipTold slip;
           treeOut = now («tree_out» .entry);
           numbersOut = now («numbers_out» .entry);
         }) r
         (now («tree_out» .exit)) (now («numbers_out» .exit)) ⌝ }
 {
     let mut rows = [0u32; 96];
-    let b = boxes::Box { u0, v0, u1, v1 };
-    let cause = refinement_cause(w, h, tree, numbers, b, level, &mut rows);
+    let b = boxes::Box {
+        u0: slip.u0,
+        v0: slip.v0,
+        u1: slip.u1,
+        v1: slip.v1,
+    };
+    let level = slip.level;
+    let cause = refinement::refinement_cause(w, h, tree, numbers, b, level, &mut rows);
     if cause != 0 {
         return answers::Length::Refused(cause);
     }
     let mut new = rows;
     let mut built = [0u8; 1365];
     let n = regions::insert(&mut new, b, level, &mut built);
-    write_refined(
+    let own = slip::slip_of(w, h, &new, &built[0..n], b, level);
+    if !slip::same(slip, own) {
+        return answers::Length::Refused(19);
+    }
+    refinement::write_refined(
         w,
         h,
         numbers,

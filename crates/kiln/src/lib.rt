@@ -1,19 +1,17 @@
 // The calls for other languages: plain numbers and slices in, the refusal number back, 0 where there is none. A slice
 // passes as a pointer and a length. What a call gives beside is written through its last parameters, and nothing is
 // written where it refuses. What a call writes must not overlap anything else that it is lent.
+pub mod files;
 pub mod flag;
 
 ghost use mathlib.Core.Path.{_≡_};
-ghost use lib.Dec.{ltb};
 ghost use Rattle.surface.specs.Table.{tableCause};
 ghost use Rattle.surface.specs.Calls.{leastOutcome, activityOutcome, freshOutcome, setOutcome};
 ghost use Rattle.surface.specs.Calls.{exactOutcome, displayOutcome, costOutcome};
 ghost use Rattle.surface.specs.Slopes.{slopesOutcome};
-ghost use Rattle.surface.specs.Note.{lentNote};
-ghost use Rattle.answers.specs.Codes.{codeOf, NumberTold, LeastTold, WattsAfter, SlopesAfter};
+ghost use Rattle.answers.specs.Codes.{codeOf, NumberTold, LeastTold, lentSlip, WattsAfter, SlopesAfter};
 ghost use Rattle.answers.specs.Codes.{SliceWritten, TableWritten};
-ghost use Rattle.demands.specs.LinkedPromises.{KilnInsertPromise, KilnExactPromise};
-ghost use Rattle.demands.specs.FilePromises.{KilnReadPromise, KilnBenchPromise, KilnWritePromise};
+ghost use Rattle.demands.specs.LinkedPromises.{KilnEnquirePromise, KilnCommitPromise, KilnExactPromise};
 
 // The levels under a box: `least` receives the least and `greatest` the greatest, `visited` the number of tree nodes
 // visited.
@@ -89,9 +87,10 @@ pub extern "C" fn kiln_fresh(
     }
 }
 
-// Inserts a box; `tree_length` receives the new tree's length.
+// Enquires what inserting a box at a level would give: `slip_length` receives the new tree's length, `slip_active` the
+// active functions of levels 0 to 3 over the new tree, `slip_visited` the nodes that `kiln_least_level` then visits.
 #[no_mangle]
-pub extern "C" fn kiln_insert(
+pub extern "C" fn kiln_enquire(
     w: usize,
     h: usize,
     tree: &[u8],
@@ -101,33 +100,71 @@ pub extern "C" fn kiln_insert(
     u1: usize,
     v1: usize,
     level: usize,
+    slip_length: &mut usize,
+    slip_active: &mut [usize; 4],
+    slip_visited: &mut usize,
+) -> u8
+    ensures { λ r. ⌜ KilnEnquirePromise w h (record { tree = now (tree .entry); numbers = now (numbers .entry) })
+        (record { box = record { u0 = u0; v0 = v0; u1 = u1; v1 = v1 }; level = level }) r
+        (now («slip_length» .entry)) (now («slip_length» .exit))
+        (now («slip_active» .entry)) (now («slip_active» .exit))
+        (now («slip_visited» .entry)) (now («slip_visited» .exit)) ⌝ }
+{
+    let r = insertion::enquire(w, h, tree, numbers, u0, v0, u1, v1, level);
+    match r {
+        answers::Enquiry::Given(slip) => {
+            *slip_length = slip.length;
+            *slip_active = [slip.active0, slip.active1, slip.active2, slip.active3];
+            *slip_visited = slip.visited;
+            0
+        }
+        answers::Enquiry::Refused(n) => n,
+    }
+}
+
+// Inserts the box of a slip, which is lent as its numbers; `tree_length` receives the new tree's length.
+#[no_mangle]
+pub extern "C" fn kiln_commit(
+    w: usize,
+    h: usize,
+    tree: &[u8],
+    numbers: &[i64],
+    u0: usize,
+    v0: usize,
+    u1: usize,
+    v1: usize,
+    level: usize,
+    slip_length: usize,
+    slip_active: &[usize; 4],
+    slip_visited: usize,
     tree_out: &mut [u8],
     numbers_out: &mut [i64],
     tree_length: &mut usize,
 ) -> u8
-    ensures { λ r. ⌜ KilnInsertPromise w h (record { tree = now (tree .entry); numbers = now (numbers .entry) })
+    ensures { λ r. ⌜ KilnCommitPromise w h (record { tree = now (tree .entry); numbers = now (numbers .entry) })
         (record {
-          box = record { u0 = u0; v0 = v0; u1 = u1; v1 = v1 };
-          level = level;
+          slip = lentSlip (record { u0 = u0; v0 = v0; u1 = u1; v1 = v1 }) level «slip_length»
+              (now («slip_active» .entry)) «slip_visited»;
           treeOut = now («tree_out» .entry);
           numbersOut = now («numbers_out» .entry);
         }) r
         (now («tree_length» .entry)) (now («tree_length» .exit))
         (now («tree_out» .exit)) (now («numbers_out» .exit)) ⌝ }
 {
-    let r = insertion::insert(
-        w,
-        h,
-        tree,
-        numbers,
+    let slip = answers::Slip {
         u0,
         v0,
         u1,
         v1,
         level,
-        tree_out,
-        numbers_out,
-    );
+        length: slip_length,
+        active0: slip_active[0],
+        active1: slip_active[1],
+        active2: slip_active[2],
+        active3: slip_active[3],
+        visited: slip_visited,
+    };
+    let r = insertion::commit(w, h, tree, numbers, slip, tree_out, numbers_out);
     match r {
         answers::Length::Bytes(n) => {
             *tree_length = n;
@@ -292,104 +329,5 @@ pub extern "C" fn kiln_cost(
             0
         }
         answers::Cost::Refused(n) => n,
-    }
-}
-
-// Loads a table file; `tree_length`, `w` and `h` receive the tree's length and the sides.
-#[no_mangle]
-pub extern "C" fn kiln_read_file(
-    file: &[u8],
-    tree_out: &mut [u8],
-    numbers_out: &mut [i64],
-    tree_length: &mut usize,
-    w: &mut usize,
-    h: &mut usize,
-) -> u8
-    ensures { λ r. ⌜ KilnReadPromise (now (file .entry)) (now («tree_out» .entry)) (now («numbers_out» .entry)) r
-        (now («tree_length» .entry)) (now («tree_length» .exit))
-        (now (w .entry)) (now (w .exit)) (now (h .entry)) (now (h .exit))
-        (now («tree_out» .exit)) (now («numbers_out» .exit)) ⌝ }
-{
-    let r = loading::read_file(file, tree_out, numbers_out);
-    match r {
-        answers::File::Loaded {
-            length: n,
-            w: wide,
-            h: high,
-        } => {
-            *tree_length = n;
-            *w = wide;
-            *h = high;
-            0
-        }
-        answers::File::Refused(n) => n,
-    }
-}
-
-// Loads a table file for the bench: what `kiln_read_file` does, and `noted` receives 1 where a note stands in the file,
-// 0 where none does, `note_offset` and `note_length` the part of the file that it is, an empty one for none.
-#[no_mangle]
-pub extern "C" fn kiln_read_bench(
-    file: &[u8],
-    tree_out: &mut [u8],
-    numbers_out: &mut [i64],
-    tree_length: &mut usize,
-    w: &mut usize,
-    h: &mut usize,
-    noted: &mut u8,
-    note_offset: &mut usize,
-    note_length: &mut usize,
-) -> u8
-    ensures { λ r. ⌜ KilnBenchPromise (now (file .entry)) (now («tree_out» .entry)) (now («numbers_out» .entry)) r
-        (now («tree_length» .entry)) (now («tree_length» .exit))
-        (now (w .entry)) (now (w .exit)) (now (h .entry)) (now (h .exit))
-        (now (noted .entry)) (now (noted .exit)) (now («note_offset» .entry)) (now («note_offset» .exit))
-        (now («note_length» .entry)) (now («note_length» .exit))
-        (now («tree_out» .exit)) (now («numbers_out» .exit)) ⌝ }
-{
-    let r = loading::read_bench(file, tree_out, numbers_out);
-    let note = r.note;
-    let f = r.file;
-    match f {
-        answers::File::Loaded {
-            length: n,
-            w: wide,
-            h: high,
-        } => {
-            *tree_length = n;
-            *w = wide;
-            *h = high;
-            *noted = flag::bit(note.stands);
-            *note_offset = note.offset;
-            *note_length = note.length;
-            0
-        }
-        answers::File::Refused(n) => n,
-    }
-}
-
-// Writes the file of a table, with a note unless `noted` is 0; `length` receives the file's length.
-#[no_mangle]
-pub extern "C" fn kiln_write_file(
-    w: usize,
-    h: usize,
-    tree: &[u8],
-    numbers: &[i64],
-    noted: u8,
-    note: &[u8],
-    file_out: &mut [u8],
-    length: &mut usize,
-) -> u8
-    ensures { λ r. ⌜ KilnWritePromise w h (record { tree = now (tree .entry); numbers = now (numbers .entry) })
-        (lentNote (ltb 0 noted) (now (note .entry))) (now («file_out» .entry)) r
-        (now (length .entry)) (now (length .exit)) (now («file_out» .exit)) ⌝ }
-{
-    let r = saving::write_file(w, h, tree, numbers, 0 < noted, note, file_out);
-    match r {
-        answers::Length::Bytes(n) => {
-            *length = n;
-            0
-        }
-        answers::Length::Refused(n) => n,
     }
 }

@@ -14,11 +14,10 @@ use Rattle.finite.specs.Bits.{bit, wordOf}
 use Rattle.finite.specs.Range.{every}
 use Rattle.finite.proofs.Bits.{bit-shr, bit-shl, bit-shl-low, bit-past, bit-mod, bits-same, word-bit, word-small}
 use Rattle.finite.proofs.Table.{length-table, getD-table}
-use Rattle.finite.proofs.Tests.{every-true, total-cong, count-cong}
-use Rattle.surface.specs.Sheet.{functions}
-use Rattle.surface.specs.Support.{leastUnder, activeInRow, activeCount}
+use Rattle.finite.proofs.Tests.{every-true}
+use Rattle.surface.specs.Support.{leastUnder, activeCount}
 use Rattle.surface.specs.Table.{levels}
-use Rattle.surface.proofs.Least.{leastUnder-cong}
+use Rattle.surface.proofs.Least.{leastUnder-cong, activeCount-cong}
 use Rattle.surface.proofs.SmallLevels.{levels-small}
 use Rattle.rows.specs.Rows.{inRows, levelsOf, Nested, above, rowsOf, levelRows, inSpan, Painted, Fit, Raised}
 use Rattle.rows.proofs.Spans.{in-span, before-span, past-span, join-quarters}
@@ -114,10 +113,9 @@ rows-least W H t rows L a b hW hH e =
 -- so are the active functions of a level counted alike
 pub rows-count : (W H : ℕ) (t rows : List ℕ) (L : ℕ) → W ≤ 8 → H ≤ 8 → rows ≡ levelRows t
     → activeCount W H (levelsOf rows) L ≡ activeCount W H (levels t) L
-unfolding activeCount activeInRow
 rows-count W H t rows L hW hH e =
-    total-cong (functions H L) _ _
-    λ b _. count-cong (functions W L) _ _ λ a _. ap (λ l. eqb l L) (rows-least W H t rows L a b hW hH e)
+    activeCount-cong W H (levelsOf rows) (levels t)
+    (λ q r hq hr. ap (λ m. levelsOf m q r) e ∙ level-rows t q r (omega arith) (omega arith)) L
 
 -- ---- painting
 

@@ -41,7 +41,7 @@ use borrow.Author.Tests.{ltb-false}
 use Rattle.surface.proofs.RefusalLaws.{answer-gives}
 use Rattle.surface.proofs.Around.{on-sheet, bracketed, fits}
 use Rattle.surface.proofs.OneTree.{same-tree, one-tree-for}
-use Rattle.surface.proofs.Steps.{accepted, inserted-cases, all-keep}
+use Rattle.surface.proofs.Steps.{accepted, committed-cases, all-keep}
 use Rattle.surface.proofs.Causes.{orElse-none, none-orElse, cause-none, cause-off}
 
 -- the exact reading is given on acceptable tables and points of the sheet
@@ -194,12 +194,12 @@ refinement-moves-no-reading W H c ss acc =
 
 -- "A box insertion raises lower levels inside the box to the one named, and changes no others."
 pub insertion-raises : InsertionRaises
-insertion-raises W H c i n e q r hq hr =
-    inserted-cases W H c i
-    (λ d. levels (d .tree) q r ≡ cond (inBox (i .box) q r) (max (levels (c .tree) q r) (i .level))
-    (levels (c .tree) q r))
+insertion-raises W H c k n e q r hq hr =
+    let box = k .slip .box in
+    let m = k .slip .level in
+    committed-cases W H c k
+    (λ d. levels (d .tree) q r ≡ cond (inBox box q r) (max (levels (c .tree) q r) m) (levels (c .tree) q r))
     (λ m f. absurd (let z : _≡_ {A = ℕ} 0 1 = cc in omega arith))
-    (λ k. let a = accepted W H (c .tree) (c .numbers) (i .box) (i .level) k in
+    (λ z _. let a = accepted W H (c .tree) (c .numbers) box m z in
     let s = sound W H (c .tree) (c .numbers) (a .0) in
-    new-levels W H (c .tree) (s .tree) (sides s .1) (sides s .3) (i .box) (i .level)
-    (a .3) (a .1) (a .2) q r hq hr)
+    new-levels W H (c .tree) (s .tree) (sides s .1) (sides s .3) box m (a .3) (a .1) (a .2) q r hq hr)

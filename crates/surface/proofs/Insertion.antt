@@ -11,11 +11,12 @@ use lib.IntN.{ℤ, pos, negℤ, natAbs, _*ℤ_}
 use lib.Dec.{leb, ltb, eqb, lit<}
 use borrow.Author.Tests.{ltb-true, eqb-true, eq-eqb, ne-eqb}
 use Rattle.surface.specs.Sheet.{Box, functions, quarters}
+use Rattle.surface.specs.Quadtree.{bytes}
 use Rattle.surface.specs.Support.{leastUnder, inBox}
 use Rattle.surface.specs.Carry.{carried, carriedOver}
 use Rattle.surface.specs.Table.{levels, coefficients, limit, tableSum}
 use Rattle.surface.specs.Calls.{newLevels, newTree, newCoefficients}
-use Rattle.surface.proofs.TreeLevels.{levelAt-beyond}
+use Rattle.surface.proofs.TreeLevels.{levelAt-beyond, regionTree-ext}
 use Rattle.surface.proofs.SmallLevels.{levels-small}
 use Rattle.surface.proofs.OneTree.{region-formed, region-levels}
 use Rattle.surface.proofs.Least.{leastUnder-cong, leastUnder-raise}
@@ -64,9 +65,26 @@ module _ (W H : ℕ) (t : List ℕ) (f : Formed W H t) (hW : W ≤ 8) (hH : H �
   unfolding newTree
   new-formed = region-formed W H hW hH (newLevels t box n) new-le new-beyond
 
-  pub new-levels : (q r : ℕ) → q < quarters W → r < quarters H → levels (newTree t box n) q r ≡ newLevels t box n q r
+  whole-levels : (q r : ℕ) → q < 32 → r < 32 → levels (newTree t box n) q r ≡ newLevels t box n q r
   unfolding newTree
-  new-levels = region-levels W H hW hH (newLevels t box n) new-le new-beyond
+  whole-levels = region-levels W H hW hH (newLevels t box n) new-le new-beyond
+
+  pub new-levels : (q r : ℕ) → q < quarters W → r < quarters H → levels (newTree t box n) q r ≡ newLevels t box n q r
+  new-levels q r hq hr = whole-levels q r (omega arith) (omega arith)
+
+  -- the same box raises them no further
+  again : (q r : ℕ) → q < 32 → r < 32 → newLevels (newTree t box n) box n q r ≡ newLevels t box n q r
+  again q r hq hr =
+      ap (λ l. cond (inBox box q r) (max l n) l) (whole-levels q r hq hr)
+      ∙ pick (inBox box q r)
+      (λ b. let l = cond b (max (levels t q r) n) (levels t q r) in cond b (max l n) l ≡ l)
+      (λ _. omega arith) (λ _. refl)
+
+  pub new-tree-again : newTree (newTree t box n) box n ≡ newTree t box n
+  unfolding newTree
+  new-tree-again =
+      ap bytes (regionTree-ext 5 0 0 (newLevels (newTree t box n) box n) (newLevels t box n)
+      (λ q r hq hr. again (0 + q) (0 + r) (omega arith) (omega arith)))
 
 -- a coefficient within its limit, in units of level 3, is at most 32,000×64^3 in size, and the other way round
 limit-scaled : (n L : ℕ) → n + L ≡ 3 → 64 ^ n * limit L ≡ limit 3

@@ -5,11 +5,13 @@ use Prim.Native.Nat.{ℕ, suc, _+_, _-_, _*_, _≤_, _<_, min}
 use native.Mathlib.Nat.{le-trans, le-of-eq, le-antisymm}
 use native.Mathlib.Nat.{mul-le-mul-right, mul-assoc, mul-comm, add-mul}
 use native.Mathlib.Omega.{arith}
+use lib.Dec.{eqb}
 use Rattle.finite.specs.Range.{least}
 use Rattle.finite.proofs.Minima.{least-le-top, least-le, le-least}
-use Rattle.finite.proofs.Tests.{both, and-intro, lts-true, lts-intro, pick}
-use Rattle.surface.specs.Sheet.{eighths, steps, quarters}
+use Rattle.finite.proofs.Tests.{both, and-intro, lts-true, lts-intro, pick, total-cong, count-cong}
+use Rattle.surface.specs.Sheet.{eighths, steps, functions, quarters}
 use Rattle.surface.specs.Support.{lowEnd, highEnd, shares, holdsAlong, leastWhere, leastUnder}
+use Rattle.surface.specs.Support.{activeInRow, activeCount}
 use Rattle.surface.specs.Truncation.{weight}
 use Rattle.surface.proofs.SplineWeight.{weight-parent, eighths-step}
 
@@ -49,6 +51,14 @@ module _ (W H : ℕ) where
   leastUnder-cong f g h L a b =
       le-antisymm (leastUnder-raise f g (λ q r hq hr. le-of-eq (h q r hq hr)) L a b)
       (leastUnder-raise g f (λ q r hq hr. le-of-eq (sym (h q r hq hr))) L a b)
+
+  -- so as many functions of a level are active
+  pub activeCount-cong : (f g : ℕ → ℕ → ℕ) → ((q r : ℕ) → q < quarters W → r < quarters H → f q r ≡ g q r)
+      → (L : ℕ) → activeCount W H f L ≡ activeCount W H g L
+  unfolding activeCount activeInRow
+  activeCount-cong f g h L =
+      total-cong (functions H L) _ _
+      λ b _. count-cong (functions W L) _ _ λ a _. ap (λ l. eqb l L) (leastUnder-cong f g h L a b)
 
 -- ---- a parent's support contains its children's
 

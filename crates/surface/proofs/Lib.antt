@@ -1,5 +1,6 @@
 pub mod Causes
 pub mod Applied
+pub mod AppliedSlips
 pub mod TreeForm
 pub mod TreeBytes
 pub mod TreeLevels
@@ -36,4 +37,5 @@ pub mod Writers
 pub mod Demands
 pub mod Costs
 pub mod Derivatives
+pub mod Slips
 pub mod AppliedSlopes

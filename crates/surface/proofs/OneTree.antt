@@ -80,8 +80,8 @@ module _ (W H : ℕ) (hW : W ≤ 8) (hH : H ≤ 8) (lev : ℕ → ℕ → ℕ) (
         shape = shape;
       }
 
-  -- and has these levels on the sheet
-  pub region-levels : (q r : ℕ) → q < quarters W → r < quarters H → levels (bytes regions) q r ≡ lev q r
+  -- and has these levels, on the sheet and beyond it
+  pub region-levels : (q r : ℕ) → q < 32 → r < 32 → levels (bytes regions) q r ≡ lev q r
   unfolding region-formed
   region-levels q r hq hr =
       levels-of W H (bytes regions) region-formed q r
@@ -124,5 +124,5 @@ one-tree-for W H hW hH lev low =
 
     given : (q r : ℕ) → q < quarters W → r < quarters H → levels (bytes regions) q r ≡ lev q r
     given q r hq hr =
-        region-levels W H hW hH cut cut-low cut-beyond q r hq hr
+        region-levels W H hW hH cut cut-low cut-beyond q r (omega arith) (omega arith)
         ∙ rw (lts-intro q (quarters W) r (quarters H) hq hr)

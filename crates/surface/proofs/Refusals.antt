@@ -21,17 +21,17 @@ use Rattle.surface.specs.Table.{cause, _orElse_, levels, places, place}
 use Rattle.surface.specs.Table.{coefficients, limit, sliceOf, regionCause, tableCause}
 use Rattle.surface.specs.FloatReading.{Near, Meets}
 use Rattle.surface.specs.Slopes.{NearSlopes, slopesOutcome}
+use Rattle.surface.specs.Enquiry.{Slip, slipOf, enquiryOutcome, sameSlip, slipCause, commitCause, commitOutcome}
 use Rattle.surface.specs.Calls.{Answer, refused, gives, written, lengthCause}
 use Rattle.surface.specs.Calls.{outputsCause, freshOutcome, freshCoefficients}
 use Rattle.surface.specs.Calls.{newLevels, newTree, newCoefficients, refinementCause}
-use Rattle.surface.specs.Calls.{insertCause, insertOutcome, setCause}
-use Rattle.surface.specs.Calls.{setOutcome, activityBytes, activityCause, activityOutcome, leastOutcome}
+use Rattle.surface.specs.Calls.{setCause, setOutcome, activityBytes, activityCause, activityOutcome, leastOutcome}
 use Rattle.surface.specs.Calls.{readingCause, exactOutcome, displayOutcome, costOutcome, indexFits, index}
 use Rattle.surface.specs.Demands.{RefusesWith, WritesAllOrNothing, WritesSliceOrNothing, Refusals}
 use Rattle.surface.proofs.TableLaws.{slice-length}
 use Rattle.surface.proofs.Causes.{orElse-assoc, orElse-none, cause-none}
-use Rattle.surface.proofs.RefusalLaws.{one-or, one-cause, one-region, one-table, one-reading, sent}
-use Rattle.surface.proofs.RefusalLaws.{slice-or-nothing, table-or-nothing}
+use Rattle.surface.proofs.RefusalLaws.{OneOf, one-or, one-cause, one-region, one-table, one-reading}
+use Rattle.surface.proofs.RefusalLaws.{sent, slice-or-nothing, table-or-nothing}
 use Rattle.surface.proofs.SlopesGiven.{slopes-given}
 use Rattle.surface.proofs.FileRefusals.{file-refusals, bench-refusals, save-refusals}
 
@@ -52,23 +52,41 @@ fresh-refusals W H number treeOut numbersOut =
     (one-or (cause 1 b1) (cause 10 b10) js (one-cause 1 b1 js refl) (one-cause 10 b10 js refl)) refl refl
     (slice-length W H (freshCoefficients number)))
 
-insert-refusals : (W H : ℕ) (t : List ℕ) (cs : List ℤ) (box : Box) (level : ℕ) (treeOut : List ℕ) (numbersOut : List ℤ)
-    → WritesAllOrNothing (1 ∷ 2 ∷ 3 ∷ 4 ∷ 5 ∷ 7 ∷ 8 ∷ 16 ∷ 17 ∷ [])
-    (insertOutcome W H t cs box level treeOut numbersOut)
-    treeOut numbersOut
-unfolding insertOutcome insertCause newCoefficients
-insert-refusals W H t cs box level treeOut numbersOut =
-    let js : List ℕ = 1 ∷ 2 ∷ 3 ∷ 4 ∷ 5 ∷ 7 ∷ 8 ∷ 16 ∷ 17 ∷ [] in
+one-refinement : (js : List ℕ) → OneOf 1 js → OneOf 2 js → OneOf 3 js → OneOf 4 js → OneOf 5 js → OneOf 7 js
+    → OneOf 8 js → (W H : ℕ) (t : List ℕ) (cs : List ℤ) (box : Box) (n : ℕ) → OneOf (refinementCause W H t cs box n) js
+one-refinement js h1 h2 h3 h4 h5 h7 h8 W H t cs box n =
     let b7 = not (ltb (box .u0) (box .u1) && ltb (box .v0) (box .v1) &&
     (leb (box .u1) (quarters W) && leb (box .v1) (quarters H))) in
-    let b8 = not (leb 1 level && leb level 3) in
-    let tree = newTree t box level in
-    let new = carriedOver W H (levels t) (newLevels t box level) (coefficients W H cs) in
-    table-or-nothing js (refinementCause W H t cs box level) W H (length tree) tree (sliceOf W H new) treeOut
-    numbersOut
-    (one-or (tableCause W H t cs) (cause 7 b7 orElse cause 8 b8) js (one-table js refl refl refl refl refl W H t cs)
-    (one-or (cause 7 b7) (cause 8 b8) js (one-cause 7 b7 js refl) (one-cause 8 b8 js refl))) refl refl
-    (slice-length W H new)
+    let b8 = not (leb 1 n && leb n 3) in
+    one-or (tableCause W H t cs) (cause 7 b7 orElse cause 8 b8) js (one-table js h1 h2 h3 h4 h5 W H t cs)
+    (one-or (cause 7 b7) (cause 8 b8) js (one-cause 7 b7 js h7) (one-cause 8 b8 js h8))
+
+enquiry-refusals : (W H : ℕ) (t : List ℕ) (cs : List ℤ) (box : Box) (level : ℕ)
+    → RefusesWith (1 ∷ 2 ∷ 3 ∷ 4 ∷ 5 ∷ 7 ∷ 8 ∷ []) (enquiryOutcome W H t cs box level)
+unfolding enquiryOutcome
+enquiry-refusals W H t cs box level =
+    let js : List ℕ = 1 ∷ 2 ∷ 3 ∷ 4 ∷ 5 ∷ 7 ∷ 8 ∷ [] in
+    sent (refinementCause W H t cs box level) _ js
+    (one-refinement js refl refl refl refl refl refl refl W H t cs box level)
+
+commit-refusals : (W H : ℕ) (t : List ℕ) (cs : List ℤ) (s : Slip) (treeOut : List ℕ) (numbersOut : List ℤ)
+    → WritesAllOrNothing (1 ∷ 2 ∷ 3 ∷ 4 ∷ 5 ∷ 7 ∷ 8 ∷ 16 ∷ 17 ∷ 19 ∷ [])
+    (commitOutcome W H t cs s treeOut numbersOut) treeOut numbersOut
+unfolding commitOutcome commitCause newCoefficients
+commit-refusals W H t cs s treeOut numbersOut =
+    let js : List ℕ = 1 ∷ 2 ∷ 3 ∷ 4 ∷ 5 ∷ 7 ∷ 8 ∷ 16 ∷ 17 ∷ 19 ∷ [] in
+    let box = s .box in
+    let c0 = refinementCause W H t cs box (s .level) in
+    let c19 = slipCause W H t s in
+    let tree = newTree t box (s .level) in
+    let new = carriedOver W H (levels t) (newLevels t box (s .level)) (coefficients W H cs) in
+    subst
+    (λ c. WritesAllOrNothing {A = ℕ} js (written c (length tree) tree (sliceOf W H new) treeOut numbersOut) treeOut
+    numbersOut)
+    (orElse-assoc c0 c19 (outputsCause W H tree treeOut numbersOut))
+    (table-or-nothing js (c0 orElse c19) W H (length tree) tree (sliceOf W H new) treeOut numbersOut
+    (one-or c0 c19 js (one-refinement js refl refl refl refl refl refl refl W H t cs box (s .level))
+    (one-cause 19 (not (sameSlip s (slipOf W H t box (s .level)))) js refl)) refl refl (slice-length W H new))
 
 set-refusals : (W H : ℕ) (t : List ℕ) (cs : List ℤ) (L : ℕ) (i j number : ℤ)
     → WritesSliceOrNothing (1 ∷ 2 ∷ 3 ∷ 4 ∷ 5 ∷ 8 ∷ 9 ∷ 10 ∷ []) (setOutcome W H t cs L i j number) cs
@@ -134,7 +152,8 @@ unfolding leastOutcome exactOutcome displayOutcome costOutcome
 refusals =
     record {
       fresh = fresh-refusals;
-      insert = insert-refusals;
+      enquiry = enquiry-refusals;
+      commit = commit-refusals;
       set = set-refusals;
       activity = activity-refusals;
       least = λ W H t box.

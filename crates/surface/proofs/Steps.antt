@@ -11,10 +11,11 @@ use borrow.Author.Tests.{leb-true}
 use Rattle.finite.proofs.Tests.{both}
 use Rattle.surface.specs.Sheet.{Box, quarters}
 use Rattle.surface.specs.Table.{cause, _orElse_, tableCause, Acceptable, tableSum}
-use Rattle.surface.specs.Calls.{refused, answer, afterwards, put, insertCause, insertOutcome, boxCause}
+use Rattle.surface.specs.Calls.{refused, answer, afterwards, put, boxCause}
 use Rattle.surface.specs.Calls.{outputsCause, newTree, newCoefficients, refinementCause}
-use Rattle.surface.specs.Demands.{Insertion, Contents, left, outcomeOf, inserted, Step}
-use Rattle.surface.specs.Demands.{insertion, afterStep, afterAll}
+use Rattle.surface.specs.Enquiry.{slipCause, commitCause, commitOutcome}
+use Rattle.surface.specs.Demands.{Commit, Contents, left, outcomeOf, committed, Step}
+use Rattle.surface.specs.Demands.{enquiry, commit, afterStep, afterAll}
 use Rattle.surface.proofs.TableLaws.{sound, acceptable}
 use Rattle.surface.proofs.Insertion.{insertion-sound, insertion-reading}
 use Rattle.surface.proofs.Causes.{orElse-none, cause-none}
@@ -33,50 +34,56 @@ accepted W H t cs box n e =
     let m = both (leb 1 n) (leb n 3) (cause-none 7 (leb 1 n && leb n 3) (e2 .1)) .1 in
     (e1 .0, leb-true (box .u1) (quarters W) (b2 .0), leb-true (box .v1) (quarters H) (b2 .1), leb-true n 3 m)
 
--- an insertion leaves the table it read, or the one it wrote
-pub inserted-cases : (W H : ℕ) (c : Contents) (i : Insertion) (P : Contents → Type 0)
-    → ((m : ℕ) → outcomeOf W H c i .result ≡ refused m → P c)
-    → (refinementCause W H (c .tree) (c .numbers) (i .box) (i .level) ≡ 0
+-- a commit leaves the table it read, or the one it wrote
+pub committed-cases : (W H : ℕ) (c : Contents) (k : Commit) (P : Contents → Type 0)
+    → ((m : ℕ) → outcomeOf W H c k .result ≡ refused m → P c)
+    → (refinementCause W H (c .tree) (c .numbers) (k .slip .box) (k .slip .level) ≡ 0
+    → slipCause W H (c .tree) (k .slip) ≡ 0
     → P (record {
-      tree = newTree (c .tree) (i .box) (i .level);
-      numbers = newCoefficients W H (c .tree) (c .numbers)
-          (i .box) (i .level);
+      tree = newTree (c .tree) (k .slip .box) (k .slip .level);
+      numbers = newCoefficients W H (c .tree) (c .numbers) (k .slip .box) (k .slip .level);
     }))
-    → P (inserted W H c i)
-unfolding insertOutcome insertCause
-inserted-cases W H c i P same new =
-    go (insertCause W H (c .tree) (c .numbers) (i .box) (i .level) (i .treeOut) (i .numbersOut)) refl
+    → P (committed W H c k)
+unfolding commitOutcome commitCause
+committed-cases W H c k P same new =
+    go (commitCause W H (c .tree) (c .numbers) (k .slip) (k .treeOut) (k .numbersOut)) refl
   where
     tree′ : List ℕ
-    tree′ = newTree (c .tree) (i .box) (i .level)
+    tree′ = newTree (c .tree) (k .slip .box) (k .slip .level)
 
     numbers′ : List ℤ
-    numbers′ = newCoefficients W H (c .tree) (c .numbers) (i .box) (i .level)
+    numbers′ = newCoefficients W H (c .tree) (c .numbers) (k .slip .box) (k .slip .level)
 
-    go : (k : ℕ) → insertCause W H (c .tree) (c .numbers) (i .box) (i .level) (i .treeOut) (i .numbersOut) ≡ k
-        → P (left c (answer k (length tree′)) (afterwards k (i .treeOut) (put tree′ (i .treeOut)))
-        (afterwards k (i .numbersOut) numbers′))
+    go : (m : ℕ) → commitCause W H (c .tree) (c .numbers) (k .slip) (k .treeOut) (k .numbersOut) ≡ m
+        → P (left c (answer m (length tree′)) (afterwards m (k .treeOut) (put tree′ (k .treeOut)))
+        (afterwards m (k .numbersOut) numbers′))
     go zero e =
+        let late = slipCause W H (c .tree) (k .slip) orElse outputsCause W H tree′ (k .treeOut) (k .numbersOut) in
+        let e1 = orElse-none (refinementCause W H (c .tree) (c .numbers) (k .slip .box) (k .slip .level)) late e in
         subst (λ l. P (record { tree = l; numbers = numbers′ }))
-        (sym (take-append-seam tree′ (drop (length tree′) (i .treeOut))))
-        (new (orElse-none (refinementCause W H (c .tree) (c .numbers) (i .box) (i .level))
-        (outputsCause W H tree′ (i .treeOut) (i .numbersOut)) e .0))
-    go (suc k) e = same (suc k) (ap (λ m. answer m (length tree′)) e)
+        (sym (take-append-seam tree′ (drop (length tree′) (k .treeOut))))
+        (new (e1 .0)
+        (orElse-none (slipCause W H (c .tree) (k .slip)) (outputsCause W H tree′ (k .treeOut) (k .numbersOut))
+        (e1 .1) .0))
+    go (suc m) e = same (suc m) (ap (λ m. answer m (length tree′)) e)
 
--- one step: an insertion, accepted or refused
+-- one step: an enquiry, or a commit, accepted or refused
 step-keeps : (W H : ℕ) (c : Contents) (s : Step) → Acceptable W H (c .tree) (c .numbers)
     → let d = afterStep W H c s in
     Acceptable W H (d .tree) (d .numbers)
     × ((f : ℕ → ℕ → ℕ → ℤ) → tableSum W H (d .tree) (d .numbers) f ≡ tableSum W H (c .tree) (c .numbers) f)
-step-keeps W H c (insertion i) acc =
-    inserted-cases W H c i
+step-keeps W H c (enquiry e) acc = (acc, λ f. refl)
+step-keeps W H c (commit k) acc =
+    let box = k .slip .box in
+    let n = k .slip .level in
+    committed-cases W H c k
     (λ d. Acceptable W H (d .tree) (d .numbers)
     × ((f : ℕ → ℕ → ℕ → ℤ) → tableSum W H (d .tree) (d .numbers) f ≡ tableSum W H (c .tree) (c .numbers) f))
     (λ _ _. (acc, λ f. refl))
-    (λ e. let a = accepted W H (c .tree) (c .numbers) (i .box) (i .level) e in
+    (λ e _. let a = accepted W H (c .tree) (c .numbers) box n e in
     let s = sound W H (c .tree) (c .numbers) acc in (
-      acceptable W H _ _ (insertion-sound W H (c .tree) (c .numbers) s (i .box) (i .level) (a .3) (a .1) (a .2)),
-      insertion-reading W H (c .tree) (c .numbers) s (i .box) (i .level) (a .3) (a .1) (a .2),
+      acceptable W H _ _ (insertion-sound W H (c .tree) (c .numbers) s box n (a .3) (a .1) (a .2)),
+      insertion-reading W H (c .tree) (c .numbers) s box n (a .3) (a .1) (a .2),
     ))
 
 pub all-keep : (W H : ℕ) (ss : List Step) (c : Contents) → Acceptable W H (c .tree) (c .numbers)

@@ -1,5 +1,6 @@
 -- Document 01, "Calls and what they decline": the whole outcome of each call on every input, as the answer and what
--- each lent buffer then holds. File reading is in TableFile and BenchLoading, saving in Saving, the slopes in Slopes.
+-- each lent buffer then holds. File reading is in TableFile and BenchLoading, saving in Saving, the slopes in Slopes;
+-- the enquiry and the commit, to which document 02 splits insertion, are in Enquiry.
 use mathlib.Core.Path.{_≡_}
 use mathlib.Core.Bool.{Bool, not, _&&_, cond}
 use mathlib.Core.List.{List, [], _∷_, _++_}
@@ -114,7 +115,8 @@ freshOutcome W H number treeOut numbersOut =
     treeOut
     numbersOut
 
--- ---- insertion: "reads one table and writes another"
+-- ---- insertion: "reads one table and writes another"; by document 02 it is an enquiry and a commit, one after the
+-- other, and that these two are what is defined here is a theorem (Slips, InsertsAsBefore)
 
 -- The levels after the insertion, and the one tree of them.
 abbrev pub newLevels : List ℕ → Box → ℕ → ℕ → ℕ → ℕ

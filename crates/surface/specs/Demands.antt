@@ -21,8 +21,9 @@ use Rattle.surface.specs.Patch.{patch, evaluated, patchReading, stopLeve
 use Rattle.surface.specs.Quadtree.{visits}
 use Rattle.surface.specs.Table.{treeOf, formed, regionsOf, levels, slots, coefficients, limit, regionCause}
 use Rattle.surface.specs.Table.{Acceptable, tableReading}
-use Rattle.surface.specs.Calls.{Answer, refused, gives, Written, Done, freshOutcome, insertOutcome, setOutcome}
+use Rattle.surface.specs.Calls.{Answer, refused, gives, Written, Done, freshOutcome, setOutcome}
 use Rattle.surface.specs.Calls.{activityOutcome, leastOutcome, exactOutcome, displayOutcome, costOutcome}
+use Rattle.surface.specs.Enquiry.{Slip, enquiryOutcome, commitOutcome}
 use Rattle.surface.specs.FloatReading.{FloatMeets}
 use Rattle.surface.specs.Slopes.{FloatSlopes, slopesOutcome, SlopesMeet}
 use Rattle.surface.specs.Note.{Note, noPart}
@@ -61,9 +62,11 @@ TellsNote o = (n : ℕ) → o .loaded .result ≡ refused n → o .note ≡ noPa
 pub record Refusals : Type 0 where
   pub fresh : (W H : ℕ) (number : ℤ) (treeOut : List ℕ) (numbersOut : List ℤ)
       → WritesAllOrNothing (1 ∷ 10 ∷ 16 ∷ 17 ∷ []) (freshOutcome W H number treeOut numbersOut) treeOut numbersOut
-  pub insert : (W H : ℕ) (t : List ℕ) (cs : List ℤ) (box : Box) (level : ℕ) (treeOut : List ℕ) (numbersOut : List ℤ)
-      → WritesAllOrNothing (1 ∷ 2 ∷ 3 ∷ 4 ∷ 5 ∷ 7 ∷ 8 ∷ 16 ∷ 17 ∷ [])
-      (insertOutcome W H t cs box level treeOut numbersOut) treeOut numbersOut
+  pub enquiry : (W H : ℕ) (t : List ℕ) (cs : List ℤ) (box : Box) (level : ℕ)
+      → RefusesWith (1 ∷ 2 ∷ 3 ∷ 4 ∷ 5 ∷ 7 ∷ 8 ∷ []) (enquiryOutcome W H t cs box level)
+  pub commit : (W H : ℕ) (t : List ℕ) (cs : List ℤ) (slip : Slip) (treeOut : List ℕ) (numbersOut : List ℤ)
+      → WritesAllOrNothing (1 ∷ 2 ∷ 3 ∷ 4 ∷ 5 ∷ 7 ∷ 8 ∷ 16 ∷ 17 ∷ 19 ∷ [])
+      (commitOutcome W H t cs slip treeOut numbersOut) treeOut numbersOut
   pub set : (W H : ℕ) (t : List ℕ) (cs : List ℤ) (L : ℕ) (i j number : ℤ)
       → WritesSliceOrNothing (1 ∷ 2 ∷ 3 ∷ 4 ∷ 5 ∷ 8 ∷ 9 ∷ 10 ∷ []) (setOutcome W H t cs L i j number) cs
   pub activity : (W H : ℕ) (t : List ℕ) (L : ℕ) (out : List ℕ)
@@ -135,11 +138,14 @@ Untruncated =
 
 -- ---- demand 2: "A box insertion raises lower levels inside the box to the one named, and changes no others."
 
--- What an insertion was lent: "In demand 3's list every insertion has its own box, level and outputs, whatever those
--- are".
-pub record Insertion : Type 0 where
+-- What an enquiry was lent, and what a commit was: "In demand 3's list every insertion has its own box, level and
+-- outputs, whatever those are"; document 02: "a commit with whatever slip it is handed".
+pub record Asked : Type 0 where
   pub box : Box
   pub level : ℕ
+
+pub record Commit : Type 0 where
+  pub slip : Slip
   pub treeOut : List ℕ
   pub numbersOut : List ℤ
 
@@ -154,18 +160,19 @@ abbrev pub left : Contents → Answer ℕ → List ℕ → List ℤ → Contents
 left c (refused n) tree numbers = c
 left c (gives n) tree numbers = record { tree = take n tree; numbers = numbers }
 
-abbrev pub outcomeOf : ℕ → ℕ → Contents → Insertion → Written ℕ
-outcomeOf W H c i = insertOutcome W H (c .tree) (c .numbers) (i .box) (i .level) (i .treeOut) (i .numbersOut)
+abbrev pub outcomeOf : ℕ → ℕ → Contents → Commit → Written ℕ
+outcomeOf W H c k = commitOutcome W H (c .tree) (c .numbers) (k .slip) (k .treeOut) (k .numbersOut)
 
-abbrev pub inserted : ℕ → ℕ → Contents → Insertion → Contents
-inserted W H c i = let o = outcomeOf W H c i in left c (o .result) (o .tree) (o .numbers)
+abbrev pub committed : ℕ → ℕ → Contents → Commit → Contents
+committed W H c k = let o = outcomeOf W H c k in left c (o .result) (o .tree) (o .numbers)
 
+-- The slip's box and level are what a commit inserts.
 abbrev pub InsertionRaises : Type 0
 InsertionRaises =
-    (W H : ℕ) (c : Contents) (i : Insertion) (n : ℕ) → outcomeOf W H c i .result ≡ gives n
+    (W H : ℕ) (c : Contents) (k : Commit) (n : ℕ) → outcomeOf W H c k .result ≡ gives n
     → (q r : ℕ) → q < quarters W → r < quarters H
-    → levels (inserted W H c i .tree) q r
-    ≡ cond (inBox (i .box) q r) (max (levels (c .tree) q r) (i .level)) (levels (c .tree) q r)
+    → levels (committed W H c k .tree) q r
+    ≡ cond (inBox (k .slip .box) q r) (max (levels (c .tree) q r) (k .slip .level)) (levels (c .tree) q r)
 
 -- ---- "So one set of regions has one tree, of 1 to 1,365 bytes."
 
@@ -244,12 +251,15 @@ BracketedReadings =
 -- ---- demand 3: "take any list of box insertions, refused ones included, that starts from an acceptable table, each
 -- insertion reading the table that the one before it left"
 
--- A step of the list, by its kind: insertions are the one kind. The table that it leaves.
+-- A step of the list, by its kind; document 02: "In demand 3's list enquiries and commits then take the place of
+-- insertions". The table that it leaves: "after an enquiry, accepted or refused, the table is the one it read".
 pub data Step : Type 0 where
-  insertion : Insertion → Step
+  enquiry : Asked → Step
+  commit : Commit → Step
 
 abbrev pub afterStep : ℕ → ℕ → Contents → Step → Contents
-afterStep W H c (insertion i) = inserted W H c i
+afterStep W H c (enquiry e) = c
+afterStep W H c (commit k) = committed W H c k
 
 unfoldable pub afterAll : ℕ → ℕ → Contents → List Step → Contents
 afterAll W H c [] = c

@@ -7,6 +7,7 @@ pub mod Carry
 pub mod Patch
 pub mod Table
 pub mod Calls
+pub mod Enquiry
 pub mod FloatReading
 pub mod Slopes
 pub mod Fields
@@ -17,3 +18,4 @@ pub mod Saving
 pub mod Demands
 pub mod Costs
 pub mod Derivatives
+pub mod Slips
