@@ -2,14 +2,17 @@
 
    Power draw over chamber temperature and climb rate is a surface of truncated hierarchical bicubic splines on a sheet
    of W by H cells. The calls make, load, refine, read and save tables of such a surface. `rt staticlib kiln` writes
-   the library to target/staticlib/libkiln.a, for x86-64. It needs memcpy and memset and nothing else. This header
-   includes kiln_refusal.h, which stands beside it. kiln_table.h has the same calls with a table in one struct, and
-   kiln_arrow.h an arrow for the display. The calls are proved; the static inline functions of all four headers are
-   plain C, which is tested and not proved.
+   the library to target/staticlib/libkiln.a, for x86-64. It needs memcpy and memset and nothing else.
+
+   Headers
+     There are five, in one folder. This one includes kiln_sizes.h, the fixed numbers and the lengths of slices, and
+     kiln_refusal.h, the refusal numbers and their words. kiln_table.h has the same calls with a table, a box and a slip
+     in structs, and kiln_arrow.h an arrow for the display. The calls are proved; the static inline functions of all
+     five headers are plain C, which is tested and not proved.
 
    Answers
      Every call returns 0 when it is done, else the refusal number of the cause that applies, the lowest where several
-     do, or for a file the first in byte order (enum kiln_refusal of kiln_refusal.h; in words by kiln_refusal_words).
+     do, but 19 before 16 and 17, and for a file the first in byte order (enum kiln_refusal; kiln_refusal_words).
      Each call below names those that it can give. What it gives beside is written through its pointers. A refused call
      writes nothing: every buffer and every value that was lent holds what it held before. Every call ends in one of
      the two, whatever the numbers and the contents of the buffers are.
@@ -17,11 +20,11 @@
    Slices
      A buffer passes as a pointer and, right after it, a length in elements. The length is taken as said: that many
      elements must be there, aligned as their type is. An empty slice (length 0) may have any pointer, NULL too. A
-     pointer without a length after it is for a single value that the call writes; it must not be NULL. What an output
-     holds before the call does not matter.
+     pointer without a length after it is for a single value that the call writes, but slip_active, which is for exactly
+     four, one for each of the levels 0 to 3; neither may be NULL. What an output holds before the call does not matter.
 
    Overlap
-     Whatever a call writes must not overlap anything else that it is lent. So an insertion writes another table and
+     Whatever a call writes must not overlap anything else that it is lent. So a commit writes another table and
      never the one that it reads. Slices that a call only reads (const) may overlap each other.
 
    Threads, stack and memory
@@ -33,6 +36,7 @@
 #define KILN_H
 
 #include "kiln_refusal.h"
+#include "kiln_sizes.h"
 
 #include <stddef.h>
 #include <stdint.h>
@@ -44,7 +48,7 @@ extern "C" {
 /* The version of this header, which is that of the library it came with. The archive itself carries none: compile a
    program with the header of the archive that it links. */
 #define KILN_VERSION_MAJOR 0
-#define KILN_VERSION_MINOR 7
+#define KILN_VERSION_MINOR 8
 #define KILN_VERSION_PATCH 0
 
 /* The table
@@ -77,79 +81,6 @@ extern "C" {
    u0, v0, u1, v1: a box, two corners in whole quarters, low corner first: u0 < u1 <= 4*w and v0 < v1 <= 4*h.
 
    A negative number that C turns into a size_t is far above every limit and is refused with its cause's number. */
-
-/* No tree is longer: a tree output of this length is never too short. */
-#define KILN_TREE_BYTES 1365
-
-/* The places of an 8 by 8 sheet, the greatest number of coefficients. */
-#define KILN_PLACES 6196
-
-/* No note is longer, in bytes. */
-#define KILN_NOTE_BYTES 64
-
-/* No file that is accepted or written is longer: the fields' eight heads, the sides, the longest tree, eight bytes of
-   counts, five for each place and the longest note. A file output of this length is never too short. A longer file is
-   refused with the same number when only its first KILN_FILE_BYTES + 1 bytes are lent. */
-#define KILN_FILE_BYTES 32443
-
-/* D = 36 * 2^42: an exact reading of x watts has the numerator x * D. */
-#define KILN_DENOMINATOR INT64_C(158329674399744)
-
-/* No cost is greater, in hundredths of a cent per hour: 32,000 watts at a tariff of 99,999. */
-#define KILN_GREATEST_COST 3199968
-
-/* No exact slope is greater in size, in watts per eighth of a cell: one and a half times 32,000 watts. */
-#define KILN_GREATEST_SLOPE 48000
-
-/* The places of one level of a w by h sheet: the length of kiln_activity's output. 0 for a side that is not 1 to 8 or
-   a level that is not 0 to 3, which the calls refuse with another number. */
-static inline size_t kiln_level_places(size_t w, size_t h, size_t level) {
-  if (w < 1 || w > 8 || h < 1 || h > 8 || level > 3) return 0;
-  return ((w << level) + 3) * ((h << level) + 3);
-}
-
-/* The places of a w by h sheet: the length of its coefficient slice. 0 for a side that is not 1 to 8. */
-static inline size_t kiln_places(size_t w, size_t h) {
-  return kiln_level_places(w, h, 0) + kiln_level_places(w, h, 1) + kiln_level_places(w, h, 2)
-    + kiln_level_places(w, h, 3);
-}
-
-/* The places of the sheet of a table file, whose sides are its bytes 3 and 4: the length of the numbers output that
-   kiln_read_file and kiln_read_bench need. 0 where the file is too short to have sides or they are not 1 to 8, which
-   is refused with another number. */
-static inline size_t kiln_file_places(const uint8_t *file, size_t file_len) {
-  return file_len < 5 ? 0 : kiln_places(file[3], file[4]);
-}
-
-/* How many functions of each level are active, as a table file says it, without loading the file. Returns 1 and writes
-   the counts of levels 0 to 3 where a field of tag 3 and length 8 stands whole after the tree's field of tag 2, which
-   starts at byte 5; else, as for a file without counts, returns 0 and writes nothing. Any bytes may be lent.
-
-   With n = 256*file[6] + file[7], the tree's length, file[8 + n] is 3 in a file that has counts, and the count of level
-   L is 256*file[11 + n + 2*L] + file[12 + n + 2*L].
-
-   This tells what the file says and judges nothing else of it. That the counts are those of the tree is known of a file
-   that kiln_read_file accepts, which refuses a wrong count with 20. */
-static inline int kiln_file_counts(const uint8_t *file, size_t file_len, size_t counts[4]) {
-  if (file_len < 8 || file[5] != 2) return 0;
-  size_t field = 8 + 256 * (size_t)file[6] + file[7];
-  if (file_len < field + 11 || file[field] != 3 || file[field + 1] != 0 || file[field + 2] != 8) return 0;
-  for (size_t level = 0; level < 4; level++) {
-    const uint8_t *count = file + field + 3 + 2 * level;
-    counts[level] = 256 * (size_t)count[0] + count[1];
-  }
-  return 1;
-}
-
-/* The quarter that holds a place along a side of the sheet, counted from 0: on an edge that two quarters share the
-   later one, and at the far edge the last. So kiln_quarter(w, u) and kiln_quarter(h, v) are the low corner of the
-   quarter square that holds a point, and one more each the high corner.
-
-   side    w or h, 1 to 8
-   steps   u or v; where it is past the far edge the quarter is past the sheet, and a box with it is refused with 7 */
-static inline size_t kiln_quarter(size_t side, size_t steps) {
-  return steps == 128 * side ? 4 * side - 1 : steps / 32;
-}
 
 /* Judges a table: 0 for an acceptable one, else the lowest of the causes 1 to 5 that applies. Writes nothing.
 
@@ -202,22 +133,66 @@ uint8_t kiln_activity(size_t w, size_t h, const uint8_t *tree, size_t tree_len, 
 uint8_t kiln_fresh(size_t w, size_t h, int64_t number, uint8_t *tree_out, size_t tree_out_len, int64_t *numbers_out,
                    size_t numbers_out_len, size_t *length);
 
-/* Inserts a box: each square in it gets the greater of its old level and the one named, and the coefficients are
-   carried over, so that the exact reading at every point of the sheet stays what it was. Reads one table and writes
-   another.
+/* Enquires what the insertion of a box would make of a table, so that its price can be looked at before the box is
+   accepted. Nothing is inserted; what is given is a slip: the box and the level that were asked for, and what is told
+   here of the new tree, the one that kiln_commit then writes. The table's coefficients have no part in a slip.
 
-   w, h, tree, numbers   the table that is read; it is not changed
+   w, h, tree, numbers   the table; it is not changed
    u0, v0, u1, v1        the box
    level                 1 to 3
-   tree_out              receives the new tree; as long as the new tree or longer (KILN_TREE_BYTES always is), and what
-                         is past the tree is untouched
+   slip_length           receives the new tree's length
+   slip_active           receives four numbers: how many functions of levels 0 to 3 are active over the new tree
+   slip_visited          receives the number of tree nodes that kiln_least_level over the box visits in the new tree
+
+   Refusals: 1 to 5, 7, 8. A refusal leaves slip_length, slip_active and slip_visited as they were. */
+uint8_t kiln_enquire(size_t w, size_t h, const uint8_t *tree, size_t tree_len, const int64_t *numbers,
+                     size_t numbers_len, size_t u0, size_t v0, size_t u1, size_t v1, size_t level,
+                     size_t *slip_length, size_t *slip_active, size_t *slip_visited);
+
+/* Inserts the box of a slip: each square in it gets the greater of its old level and the slip's, and the coefficients
+   are carried over, so that the exact reading at every point of the sheet stays what it was. Reads one table and writes
+   another, whose tree is as the slip told.
+
+   A slip serves for each table that itself gives the same one for that box and level, whichever table gave it. So it
+   serves after kiln_set, and for the table that its own commit wrote, whose tree it leaves as it is. It no longer
+   serves once another insertion has changed what it tells: enquire anew.
+
+   w, h, tree, numbers   the table that is read; it is not changed
+   u0, v0, u1, v1        the slip's box
+   level                 the slip's level
+   slip_length           the new tree's length, as kiln_enquire told it
+   slip_active           four numbers: the active functions of levels 0 to 3, as told; they are not changed
+   slip_visited          the nodes visited, as told
+   tree_out              receives the new tree; as long as the new tree or longer (slip_length and KILN_TREE_BYTES are),
+                         and what is past the tree is untouched
    numbers_out           receives the new coefficients; its length must be kiln_places(w, h)
    length                receives the new tree's length
 
-   Refusals: 1 to 5, 7, 8, 16, 17. A refusal leaves tree_out, numbers_out and length as they were. */
-uint8_t kiln_insert(size_t w, size_t h, const uint8_t *tree, size_t tree_len, const int64_t *numbers,
-                    size_t numbers_len, size_t u0, size_t v0, size_t u1, size_t v1, size_t level, uint8_t *tree_out,
-                    size_t tree_out_len, int64_t *numbers_out, size_t numbers_out_len, size_t *length);
+   Refusals: 1 to 5, 7 and 8 for the slip's box and level, 19 for a slip that is not the one that this table gives for
+   them, then 16, 17. A refusal leaves tree_out, numbers_out and length as they were. */
+uint8_t kiln_commit(size_t w, size_t h, const uint8_t *tree, size_t tree_len, const int64_t *numbers,
+                    size_t numbers_len, size_t u0, size_t v0, size_t u1, size_t v1, size_t level, size_t slip_length,
+                    const size_t *slip_active, size_t slip_visited, uint8_t *tree_out, size_t tree_out_len,
+                    int64_t *numbers_out, size_t numbers_out_len, size_t *length);
+
+/* Inserts a box that no one has to accept first: kiln_enquire, and then kiln_commit with its slip, so that the table is
+   judged twice. The parameters are those of the two, and the box, the level and the outputs are as said there.
+
+   Refusals: 1 to 5, 7, 8, 16, 17. A refusal leaves tree_out, numbers_out and length as they were.
+
+   Before 0.8.0 this was a call of the archive, which has it no more: a program compiled with an earlier header does not
+   link if it inserts. Its source does with this one, unchanged. */
+static inline uint8_t kiln_insert(size_t w, size_t h, const uint8_t *tree, size_t tree_len, const int64_t *numbers,
+                                  size_t numbers_len, size_t u0, size_t v0, size_t u1, size_t v1, size_t level,
+                                  uint8_t *tree_out, size_t tree_out_len, int64_t *numbers_out,
+                                  size_t numbers_out_len, size_t *length) {
+  size_t slip_length = 0, slip_active[4] = {0, 0, 0, 0}, slip_visited = 0;
+  uint8_t refused = kiln_enquire(w, h, tree, tree_len, numbers, numbers_len, u0, v0, u1, v1, level, &slip_length,
+                                 slip_active, &slip_visited);
+  if (refused) return refused;
+  return kiln_commit(w, h, tree, tree_len, numbers, numbers_len, u0, v0, u1, v1, level, slip_length, slip_active,
+                     slip_visited, tree_out, tree_out_len, numbers_out, numbers_out_len, length);
+}
 
 /* Sets one active coefficient and writes its one place.
 

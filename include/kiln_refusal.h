@@ -27,7 +27,8 @@ enum kiln_refusal {
   KILN_OUTPUT_LENGTH = 16,
   KILN_TREE_OUTPUT_SHORT = 17,
   KILN_FILE_OUTPUT_SHORT = 18,
-  KILN_FILE_COUNT = 20  /* 19 is not given by this version */
+  KILN_SLIP = 19,
+  KILN_FILE_COUNT = 20
 };
 
 /* What a call returned, in words; for every number, never NULL. */
@@ -52,6 +53,7 @@ static inline const char *kiln_refusal_words(uint8_t number) {
     case KILN_OUTPUT_LENGTH: return "numbers or activity output not of the exact length";
     case KILN_TREE_OUTPUT_SHORT: return "tree output shorter than the tree";
     case KILN_FILE_OUTPUT_SHORT: return "file output shorter than the file";
+    case KILN_SLIP: return "the slip is not the one that this table gives for the slip's own box and level";
     case KILN_FILE_COUNT: return "count in a file differs from the tree's";
     default: return "a cause that this version has no words for";
   }

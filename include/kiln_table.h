@@ -1,10 +1,10 @@
 /* The calls of kiln.h with a table in one struct, for C and C++.
 
-   A table, a point, a box, a function and a sheet are structs of their own, so that a compiler refuses one in place of
-   another, and a table's sides, buffers and lengths stay together. Each function makes the one call that it names, but
-   for those of rooms and of quarters, which make none: what the call gives, its refusals and what they leave are said
-   in kiln.h, and below what differs. Members are best said by name, in C as (struct kiln_point){.u = 64, .v = 5}.
-   Includes kiln.h, and kiln_arrow.h for the struct of watts and slopes. */
+   A table, a point, a box, a slip, a function and a sheet are structs of their own, so that a compiler refuses one in
+   place of another, and a table's sides, buffers and lengths stay together. Each function makes the one call that it
+   names, but for kiln_table_insert, which makes two, and those of rooms and of quarters, which make none: what the call
+   gives, its refusals and what they leave are said in kiln.h, and below what differs. Members are best said by name, in
+   C as (struct kiln_point){.u = 64, .v = 5}. Includes kiln.h, and kiln_arrow.h for the struct of watts and slopes. */
 #ifndef KILN_TABLE_H
 #define KILN_TABLE_H
 
@@ -38,6 +38,15 @@ struct kiln_box {
   size_t v0;
   size_t u1;
   size_t v1;
+};
+
+/* A slip: a box and the level to which it is to be raised, and what a table's tree would then be. */
+struct kiln_slip {
+  struct kiln_box box;
+  size_t level;
+  size_t length;     /* the new tree's length */
+  size_t active[4];  /* how many functions of levels 0 to 3 are active over the new tree */
+  size_t visited;    /* the tree nodes that one kiln_table_least_level over the box visits in the new tree */
 };
 
 /* Function (i, j) of a level, i along w and j along h, each from -3. */
@@ -116,16 +125,36 @@ static inline uint8_t kiln_table_fresh(struct kiln_sheet sheet, int64_t number, 
   return refused;
 }
 
-/* kiln_insert. The table that made receives lies in the room, which must not overlap the one that is read; made may be
+/* kiln_enquire. A refusal leaves slip as it was. */
+static inline uint8_t kiln_table_enquire(const struct kiln_table *table, struct kiln_box box, size_t level,
+                                         struct kiln_slip *slip) {
+  uint8_t refused = kiln_enquire(table->w, table->h, table->tree, table->tree_len, table->numbers, table->numbers_len,
+                                 box.u0, box.v0, box.u1, box.v1, level, &slip->length, slip->active, &slip->visited);
+  if (refused) return refused;
+  slip->box = box;
+  slip->level = level;
+  return refused;
+}
+
+/* kiln_commit. The table that made receives lies in the room, which must not overlap the one that is read; made may be
    the struct of the one that is read. A refusal leaves room and made as they were. */
-static inline uint8_t kiln_table_insert(const struct kiln_table *table, struct kiln_box box, size_t level,
+static inline uint8_t kiln_table_commit(const struct kiln_table *table, const struct kiln_slip *slip,
                                         struct kiln_room room, struct kiln_table *made) {
   size_t tree_len = 0;
-  uint8_t refused = kiln_insert(table->w, table->h, table->tree, table->tree_len, table->numbers, table->numbers_len,
-                                box.u0, box.v0, box.u1, box.v1, level, room.tree, room.tree_len, room.numbers,
+  uint8_t refused = kiln_commit(table->w, table->h, table->tree, table->tree_len, table->numbers, table->numbers_len,
+                                slip->box.u0, slip->box.v0, slip->box.u1, slip->box.v1, slip->level, slip->length,
+                                slip->active, slip->visited, room.tree, room.tree_len, room.numbers,
                                 kiln_room_places(room, kiln_places(table->w, table->h)), &tree_len);
   if (!refused) kiln_room_written(room, table->w, table->h, tree_len, made);
   return refused;
+}
+
+/* kiln_insert, which is kiln_table_enquire and kiln_table_commit. Room and made are as for the latter. */
+static inline uint8_t kiln_table_insert(const struct kiln_table *table, struct kiln_box box, size_t level,
+                                        struct kiln_room room, struct kiln_table *made) {
+  struct kiln_slip slip;
+  uint8_t refused = kiln_table_enquire(table, box, level, &slip);
+  return refused ? refused : kiln_table_commit(table, &slip, room, made);
 }
 
 /* kiln_set. Writes one of the table's numbers. */

@@ -27,10 +27,16 @@ extern "C" {
         w: usize, h: usize, number: i64, tree_out: *mut u8, tree_out_len: usize, numbers_out: *mut i64,
         numbers_out_len: usize, length: *mut usize,
     ) -> u8;
-    fn kiln_insert(
+    fn kiln_enquire(
         w: usize, h: usize, tree: *const u8, tree_len: usize, numbers: *const i64, numbers_len: usize, u0: usize,
-        v0: usize, u1: usize, v1: usize, level: usize, tree_out: *mut u8, tree_out_len: usize, numbers_out: *mut i64,
-        numbers_out_len: usize, length: *mut usize,
+        v0: usize, u1: usize, v1: usize, level: usize, slip_length: *mut usize, slip_active: *mut usize,
+        slip_visited: *mut usize,
+    ) -> u8;
+    fn kiln_commit(
+        w: usize, h: usize, tree: *const u8, tree_len: usize, numbers: *const i64, numbers_len: usize, u0: usize,
+        v0: usize, u1: usize, v1: usize, level: usize, slip_length: usize, slip_active: *const usize,
+        slip_visited: usize, tree_out: *mut u8, tree_out_len: usize, numbers_out: *mut i64, numbers_out_len: usize,
+        length: *mut usize,
     ) -> u8;
     fn kiln_set(
         w: usize, h: usize, tree: *const u8, tree_len: usize, numbers: *mut i64, numbers_len: usize, level: usize,
@@ -115,16 +121,17 @@ pub fn fresh([w, h]: [usize; 2], number: i64, tree_out: &mut [u8], numbers_out: 
     unless_refused(n, length)
 }
 
-/// The new tree's length.
-pub fn insert(
-    [w, h]: [usize; 2], tree: &[u8], numbers: &[i64], [u0, v0, u1, v1]: [usize; 4], level: usize, tree_out: &mut [u8],
-    numbers_out: &mut [i64],
-) -> Answer<usize> {
-    let mut length = 0;
-    // SAFETY: reads two slices that are borrowed for reading; writes two that are borrowed for writing, so apart from
-    // those and from each other, and a local value.
+/// What an enquiry asks: a box's corners and a level.
+pub type Asked = ([usize; 4], usize);
+
+/// What it tells: the new tree's length, the active functions of levels 0 to 3 and the number of nodes visited.
+pub type Told = (usize, [usize; 4], usize);
+
+pub fn enquire([w, h]: [usize; 2], tree: &[u8], numbers: &[i64], ([u0, v0, u1, v1], level): Asked) -> Answer<Told> {
+    let (mut length, mut active, mut visited) = (0, [0; 4], 0);
+    // SAFETY: reads two slices and writes three local values, of which the second has the four numbers that are due.
     let n = unsafe {
-        kiln_insert(
+        kiln_enquire(
             w,
             h,
             tree.as_ptr(),
@@ -136,6 +143,38 @@ pub fn insert(
             u1,
             v1,
             level,
+            &mut length,
+            active.as_mut_ptr(),
+            &mut visited,
+        )
+    };
+    unless_refused(n, (length, active, visited))
+}
+
+/// The new tree's length.
+pub fn commit(
+    [w, h]: [usize; 2], tree: &[u8], numbers: &[i64], ([u0, v0, u1, v1], level): Asked,
+    (slip_length, active, visited): Told, tree_out: &mut [u8], numbers_out: &mut [i64],
+) -> Answer<usize> {
+    let mut length = 0;
+    // SAFETY: reads two slices that are borrowed for reading and the four numbers of a local value; writes two slices
+    // that are borrowed for writing, so apart from those and from each other, and a local value.
+    let n = unsafe {
+        kiln_commit(
+            w,
+            h,
+            tree.as_ptr(),
+            tree.len(),
+            numbers.as_ptr(),
+            numbers.len(),
+            u0,
+            v0,
+            u1,
+            v1,
+            level,
+            slip_length,
+            active.as_ptr(),
+            visited,
             tree_out.as_mut_ptr(),
             tree_out.len(),
             numbers_out.as_mut_ptr(),

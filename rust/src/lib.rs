@@ -31,7 +31,7 @@
 #![deny(unsafe_code)]
 #![warn(missing_docs)]
 
-// Each of ffi, refusal, sizes, place, table, file, arrow, readings and around uses only those before it.
+// Each of ffi, refusal, sizes, place, table, slip, file, arrow, readings and around uses only those before it.
 mod around;
 mod arrow;
 mod ffi;
@@ -40,6 +40,7 @@ mod place;
 mod readings;
 mod refusal;
 mod sizes;
+mod slip;
 mod table;
 
 pub use around::ActiveFunction;
@@ -48,4 +49,5 @@ pub use place::{Point, QuarterBox};
 pub use refusal::Refusal;
 pub use sizes::{file_counts, level_places, place_of, places};
 pub use sizes::{DENOMINATOR, FILE_BYTES, GREATEST_COST, GREATEST_SLOPE, NOTE_BYTES, SLOPE_BOUND, TREE_BYTES};
+pub use slip::Slip;
 pub use table::{Levels, Table};

@@ -5,9 +5,9 @@ use std::num::NonZeroU8;
 
 macro_rules! refusals {
     ($($number:literal $name:ident $words:literal)*) => {
-        /// Why a call was refused. Where several causes apply it is the one of the lowest number; a file is judged in
-        /// byte order. Later versions of the library may have more. A note that is too long to be saved would have a
-        /// field of wrong length, and is refused as one.
+        /// Why a call was refused. Where several causes apply it is the one of the lowest number, but 19 before 16 and
+        /// 17; a file is judged in byte order. Later versions of the library may have more. A note that is too long to
+        /// be saved would have a field of wrong length, and is refused as one.
         ///
         /// It shows its number and its words, also where `main` returns it.
         ///
@@ -42,8 +42,8 @@ macro_rules! refusals {
             ///
             /// assert_eq!(Refusal::of(12), Some(Refusal::FileEnds));
             /// assert_eq!(Refusal::of(0), None);
-            /// assert_eq!(Refusal::of(19), None); // no refusal of this version
-            /// assert!((1..=18).chain([20]).all(|n| Refusal::of(n).map(Refusal::number) == Some(n)));
+            /// assert_eq!(Refusal::of(21), None); // no refusal of this version
+            /// assert!((1..=20).all(|n| Refusal::of(n).map(Refusal::number) == Some(n)));
             /// ```
             pub fn of(number: u8) -> Option<Refusal> {
                 match number {
@@ -52,13 +52,14 @@ macro_rules! refusals {
                 }
             }
 
-            /// The refusal number, 1 to 18 or 20, or whatever a newer library gave.
+            /// The refusal number, 1 to 20, or whatever a newer library gave.
             ///
             /// ```
             /// use kiln::Refusal;
             ///
             /// assert_eq!(Refusal::Side.number(), 1);
             /// assert_eq!(Refusal::FileOutputShort.number(), 18);
+            /// assert_eq!(Refusal::Slip.number(), 19);
             /// assert_eq!(Refusal::FileCount.number(), 20);
             /// ```
             pub fn number(self) -> u8 {
@@ -102,6 +103,7 @@ refusals! {
     16 OutputLength "numbers or activity output not of the exact length"
     17 TreeOutputShort "tree output shorter than the tree"
     18 FileOutputShort "file output shorter than the file"
+    19 Slip "the slip is not the one that this table gives for the slip's own box and level"
     20 FileCount "count in a file differs from the tree's"
 }
 
@@ -142,8 +144,9 @@ mod tests {
     use super::Refusal;
     use std::num::NonZeroU8;
 
-    // The first column of document 01's table of causes, in the order of its numbers, and document 02's words for 18.
-    const CAUSES: [&str; 18] = [
+    // The first column of document 01's table of causes, in the order of its numbers, and document 02's words for 18
+    // to 20.
+    const CAUSES: [&str; 20] = [
         "a side of 0 or above 8",
         "tree not of the form above",
         "coefficient slice not of the total length",
@@ -162,10 +165,9 @@ mod tests {
         "numbers or activity output not of the exact length",
         "tree output shorter than the tree",
         "file output shorter than the file",
+        "the slip is not the one that this table gives for the slip's own box and level",
+        "a count differs from the tree's",
     ];
-
-    // Document 02's words for 20. Its 19 is another request's, which this version does not have.
-    const COUNT_CAUSE: &str = "a count differs from the tree's";
 
     fn of_any(number: u8) -> Refusal {
         Refusal::from(NonZeroU8::new(number).unwrap())
@@ -173,7 +175,7 @@ mod tests {
 
     #[test]
     fn each_number_has_the_words_of_its_cause() {
-        for (number, words) in (1..).zip(CAUSES).chain([(20, COUNT_CAUSE)]) {
+        for (number, words) in (1..).zip(CAUSES) {
             // Away from the documents' text, "above" and "a count" say too little.
             let words = words.replace("form above", "form of a region tree").replace("a count", "count in a file");
             assert_eq!(Refusal::of(number).map(Refusal::words), Some(&words[..]));
@@ -184,7 +186,7 @@ mod tests {
 
     #[test]
     fn a_number_without_a_name_is_an_error_value() {
-        for number in (19..=u8::MAX).filter(|&number| number != 20) {
+        for number in 21..=u8::MAX {
             let refusal = of_any(number);
             assert_eq!(Refusal::of(number), None);
             assert_eq!(refusal, Refusal::Unknown { number });

@@ -1,8 +1,8 @@
-//! Tables: what makes, refines and changes one, and what it is made of.
+//! Tables: what makes and changes one, and what it is made of.
 use crate::ffi;
 use crate::place::QuarterBox;
 use crate::refusal::Refusal;
-use crate::sizes::{level_places, places, TREE_BYTES};
+use crate::sizes::{level_places, places};
 
 /// An acceptable table: a sheet, the tree of its regions and its coefficients, all owned.
 ///
@@ -159,40 +159,6 @@ impl Table {
     /// ```
     pub fn numbers(&self) -> &[i64] {
         &self.numbers
-    }
-
-    /// The table with a box raised to `level`, 1 to 3, where it is lower, and the coefficients carried over: its exact
-    /// reading at every point of the sheet is that of this table.
-    ///
-    /// Refused: a box with no area or past the sheet, a level that is not 1 to 3.
-    ///
-    /// ```
-    /// use kiln::{places, Point, QuarterBox, Refusal, Table};
-    ///
-    /// let mut numbers = [-1_000, 0, 1_000, 2_000].repeat(4);
-    /// numbers.resize(places(1, 1), 0);
-    /// let table = Table::from_parts(1, 1, &[0], &numbers)?;
-    ///
-    /// let whole = QuarterBox::new(0, 0, 4, 4);
-    /// let finer = table.insert(whole, 1)?;
-    /// assert_eq!(finer.numbers()[16..41], [-32_000, 0, 32_000, 64_000, 96_000].repeat(5));
-    /// for (u, v) in (0..=128).flat_map(|u| [(u, 0), (u, 77), (u, 128)]) {
-    ///     assert_eq!(finer.exact(Point::new(u, v)), table.exact(Point::new(u, v)));
-    /// }
-    /// assert_eq!(table.insert(QuarterBox::new(0, 0, 5, 4), 1), Err(Refusal::QuarterBox));
-    /// assert_eq!(table.insert(whole, 4), Err(Refusal::Level));
-    ///
-    /// // The eastern half of 2 by 1.
-    /// let east = Table::fresh(2, 1, 700)?.insert(QuarterBox::new(4, 0, 8, 4), 1)?;
-    /// assert_eq!(east.tree(), [4, 4, 4, 0, 1, 0, 0, 0, 0, 0, 0, 0, 0]);
-    /// # Ok::<(), Refusal>(())
-    /// ```
-    pub fn insert(&self, raised: QuarterBox, level: usize) -> Result<Table, Refusal> {
-        let (mut tree, mut numbers) = (vec![0; TREE_BYTES], vec![0; self.numbers.len()]);
-        let length =
-            ffi::insert(self.sheet(), &self.tree, &self.numbers, raised.corners(), level, &mut tree, &mut numbers)?;
-        tree.truncate(length);
-        Ok(Table { w: self.w, h: self.h, tree, numbers })
     }
 
     /// Sets the coefficient of the active function (`i`, `j`) of a level, in units of 1/64^level watt.

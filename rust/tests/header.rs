@@ -2,7 +2,7 @@
 use kiln::{places, Refusal};
 use kiln::{DENOMINATOR, FILE_BYTES, GREATEST_COST, GREATEST_SLOPE, NOTE_BYTES, SLOPE_BOUND, TREE_BYTES};
 
-const HEADER: &str = include_str!(concat!(env!("CARGO_MANIFEST_DIR"), "/../include/kiln.h"));
+const SIZES: &str = include_str!(concat!(env!("CARGO_MANIFEST_DIR"), "/../include/kiln_sizes.h"));
 const ARROW: &str = include_str!(concat!(env!("CARGO_MANIFEST_DIR"), "/../include/kiln_arrow.h"));
 const REFUSALS: &str = include_str!(concat!(env!("CARGO_MANIFEST_DIR"), "/../include/kiln_refusal.h"));
 
@@ -25,7 +25,7 @@ fn every_refusal_of_the_header_has_a_name_and_no_other_number_has() {
 #[test]
 fn the_fixed_numbers_are_those_of_the_header() {
     let defined = |name: &str| {
-        let (_, value) = HEADER.split_once(&format!("#define {name} ")).unwrap();
+        let (_, value) = SIZES.split_once(&format!("#define {name} ")).unwrap();
         leading_number(value.strip_prefix("INT64_C(").unwrap_or(value))
     };
     assert_eq!(defined("KILN_DENOMINATOR"), DENOMINATOR);

@@ -1,17 +1,17 @@
 """Calls whose answers are kept from revision to revision: each call on each table, those of files on acceptable ones,
-and readings at many points."""
+and readings at many points. An enquiry and a commit are kept as the insertion that they are together."""
 from __future__ import annotations
 
 from hashlib import sha256
 from itertools import chain
-from typing import Iterator, List, Tuple
+from typing import Iterator, List, Tuple, Union
 
 from answered_tables import Table, accepted, points, refused
 from surface import LEVELS, QUARTERS_PER_CELL, place_count
 import tablefile
 import tree as quadtree
 from edges import lent, room
-from library import Answer, Float, Lent, Library, Scalar, numbers, octets
+from library import Answer, Float, Inserted, Known, Lent, Library, Scalar, numbers, octets
 
 TARIFF, TARIFFS = 12_345, (0, 499, 500, 1_499, 1_500, 99_999, 100_000)
 PRICED_AT = (5, 7)
@@ -37,6 +37,21 @@ def said(got: Answer) -> str:
     changed = [f"{at}={given(one)}" for at, one in enumerate(got.lent)
                if not isinstance(one, Scalar) and not one.unchanged()]
     return " ".join([str(got.cause), *(given(one) for one in got.lent if isinstance(one, Scalar)), *changed])
+
+
+def as_lent(got: Answer) -> bool:
+    """Whether a call wrote nothing but what it gives: nothing where it refuses, and nothing beside."""
+    return all(one.guarded() and (one.unchanged() or isinstance(one, Scalar) and not got.cause) for one in got.lent)
+
+
+def inserted(got: Inserted) -> str:
+    """What an insertion leaves, without the slip's counts, which are lent to its commit; the enquiry too, where it
+    refuses with another number or writes, or where those counts are not as they were lent."""
+    enquiry, (cause, lent) = got
+    counts = [one for one in lent if isinstance(one, Known) and not isinstance(one, Scalar)]
+    whole = said(Answer(cause, [one for one in lent if one not in counts]))
+    alike = enquiry.cause in (0, cause) and as_lent(enquiry) and all(one.unchanged() for one in counts)
+    return whole if alike else f"{whole}, enquired {said(enquiry)}, counts {' '.join(map(given, counts))}"
 
 
 def boxes(t: Table) -> List[Tuple[int, int, int, int]]:
@@ -72,7 +87,7 @@ def about_files(lib: Library, t: Table) -> Iterator[Tuple[str, Answer]]:
         yield f"read_file to {words}", lib.read_file(octets(whole), *outputs(t, *lengths))
 
 
-def about(lib: Library, t: Table) -> Iterator[Tuple[str, Answer]]:
+def about(lib: Library, t: Table) -> Iterator[Tuple[str, Union[Answer, Inserted]]]:
     """The calls but readings, each in words with its answer."""
     held = lent(t)
     yield "table_cause", lib.table_cause(*held)
@@ -96,10 +111,11 @@ def answers_about(lib: Library, name: str, t: Table, good: bool) -> Iterator[str
     held = lent(t)
     yield f"{name}: {t.w} by {t.h}, tree {digest(held[2].given)}, coefficients {digest(held[3].given)}"
     for words, got in chain(about(lib, t), about_files(lib, t) if good else ()):
-        yield f"{name}, {words}: {said(got)}"
+        yield f"{name}, {words}: {inserted(got) if isinstance(got, Inserted) else said(got)}"
     for u, v in points(t) if good else [PRICED_AT]:
         read = *(call(*held, u, v) for call in (lib.exact, lib.watts, lib.display)), lib.cost(*held, u, v, TARIFF)
         yield f"{name} ({u}, {v}): {', '.join(map(said, read))}"
+        yield f"{name}, slopes ({u}, {v}): {said(lib.slopes(*held, u, v))}"
 
 
 def answers(lib: Library) -> Iterator[str]:

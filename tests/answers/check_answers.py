@@ -29,7 +29,8 @@ KEPT = ROOT / "tests/answers/answers.txt"
 MOST, STEPS, TURNED = 10, 20, 150
 WORDS = """# Answers of the library at revision %s, to which check_answers.py holds it: of each call the number that it
 # returned, what its scalars then hold, an f64 by its bits, and each slice that is not as it was lent, by its place,
-# with its length and a digest; "lent" is as it was lent. At a point: exact reading, f64, display and cost."""
+# with its length and a digest; "lent" is as it was lent. At a point: exact reading, f64, display and cost; and by
+# itself the record of watts and slopes, three f64."""
 # A cost that was given: of a table at a tariff, and at a point after the exact reading, the f64 and the display. At
 # least so many must be there.
 PRICED, READ = pattern(r"(.+), cost (\d+): 0 (\d+)"), pattern(r".+ \(\d+, \d+\): 0 (-?\d+), .*, 0 (\d+)")

@@ -6,14 +6,25 @@ from __future__ import annotations
 
 from typing import Callable, Dict, List, NamedTuple
 
-from measure import AT_LEVEL, EXACT, LARGEST, LARGEST_FILE, LOADS, MEASURED, READ, READ_UNCOUNTED, READINGS, SLOPES
-from measure import SLOPES_2, UNREFINED, WATTS, WATTS_2, WRITES, Figures, beyond_on, calls_on, counted_on, level_at
-from measure import stacked_on, tables
+from measure import AT_LEVEL, COMMIT, COMMIT_AT, ENQUIRE, ENQUIRE_AT, EXACT, LARGEST, LARGEST_FILE, LOADS, MEASURED
+from measure import READ, READ_UNCOUNTED, READINGS, SLOPES, SLOPES_2, UNREFINED, WATTS, WATTS_2, WRITES, Figures
+from measure import beyond_on, calls_on, counted_on, level_at, stacked_on, tables
 
 RATIO = 1.2
 CHECK = 150_000
 CHECK_UNREFINED = 64_000
-INSERTION = 450_000
+COMMITTING = 450_000
+# What insertion took before it was split into enquiry and commit, of the whole sheet and of one quarter square.
+INSERTED_BEFORE = {
+    "1 by 1, unrefined": (13_950, 14_676),
+    "1 by 1, fully split": (15_176, 16_400),
+    "4 by 4, unrefined": (61_681, 64_835),
+    "4 by 4, fully split": (71_553, 88_952),
+    "8 by 8, unrefined": (184_410, 192_915),
+    "8 by 8, fully split": (222_671, 290_685),
+}
+# An enquiry takes less than that, and less than the commit of its slip; a commit at most so many times that.
+LESS, OVER_INSERTION = -1, 1.3
 FILE_READING = 290_000
 FILE_WRITING = 500_000
 # What file reading took before files had counts, of the file of each table, which had none.
@@ -121,18 +132,47 @@ def over_watts(figures: Figures) -> Dict[str, float]:
             for call, watts in ((SLOPES, WATTS), (SLOPES_2, WATTS_2)) if call in calls_on(table)}
 
 
+def inserted_before(table: str, call: str) -> int:
+    """What the insertion of the same box took before it was split."""
+    return INSERTED_BEFORE[table][call in (ENQUIRE_AT, COMMIT_AT)]
+
+
+def enquiries_beyond_insertion(figures: Figures) -> Dict[str, float]:
+    """The instructions of an enquiry beyond those of the insertion of the same box before it was split."""
+    return {f"{MEASURED[call]}, {table}": figures.library[table].counts[call] - inserted_before(table, call)
+            for table in INSERTED_BEFORE for call in (ENQUIRE, ENQUIRE_AT)}
+
+
+def enquiries_beyond_commit(figures: Figures) -> Dict[str, float]:
+    """The instructions of an enquiry beyond those of the commit of its slip."""
+    return {f"{MEASURED[call]}, {table}": figures.library[table].counts[call] - figures.library[table].counts[commit]
+            for table in INSERTED_BEFORE for call, commit in ((ENQUIRE, COMMIT), (ENQUIRE_AT, COMMIT_AT))}
+
+
+def over_insertion(figures: Figures) -> Dict[str, float]:
+    """The instructions of a commit over those of the insertion of the same box before it was split."""
+    return {f"{MEASURED[call]}, {table}": figures.library[table].counts[call] / inserted_before(table, call)
+            for table in INSERTED_BEFORE for call in (COMMIT, COMMIT_AT)}
+
+
 def corners(figures: Figures) -> Dict[str, float]:
     return {LARGEST_FILE: figures.corners / figures.library[LARGEST_FILE].counts[READ]}
 
 
 BARS = {
-    "ratio": Bar("instructions over those of the C program, of a call, and of an exact reading, and of watts and "
-                 "slopes, beyond the table check", RATIO, ratios),
+    "ratio": Bar("instructions over those of the C program, of a call, and of an exact reading, of watts and slopes, "
+                 "of an enquiry and of a commit beyond the table check", RATIO, ratios),
     "check": Bar(f"instructions of the table check, {LARGEST}", CHECK, counts(LARGEST, "table_cause")),
     "unrefined": Bar(f"instructions of the table check, {UNREFINED}", CHECK_UNREFINED,
                      counts(UNREFINED, "table_cause")),
     "reading": Bar(f"instructions of a reading, {LARGEST}", READING, counts(LARGEST, *READINGS)),
-    "insertion": Bar(f"instructions of an insertion, {LARGEST}", INSERTION, counts(LARGEST, "insert")),
+    "committing": Bar(f"instructions of a commit, {LARGEST}", COMMITTING, counts(LARGEST, COMMIT, COMMIT_AT)),
+    "enquiry": Bar("instructions of an enquiry beyond those of the insertion of its box before that was split", LESS,
+                   enquiries_beyond_insertion),
+    "enquiry first": Bar("instructions of an enquiry beyond those of the commit of its slip", LESS,
+                         enquiries_beyond_commit),
+    "commit": Bar("instructions of a commit over those of the insertion of its box before that was split",
+                  OVER_INSERTION, over_insertion),
     "file reading": Bar("instructions of reading the largest file", FILE_READING, counts(LARGEST_FILE, *LOADS)),
     "counts": Bar("instructions of file reading beyond those before files had counts, of a file with them or without",
                   MORE_FOR_COUNTS, more_for_counts),

@@ -58,9 +58,39 @@ static unsigned set(void) {
   return CALL(set)(w, h, tree, tree_len, numbers, numbers_len, 0, 0, 0, numbers[3 * (w + 3) + 3]);
 }
 
-static unsigned insert(void) {
-  return CALL(insert)(w, h, tree, tree_len, numbers, numbers_len, 0, 0, 4 * w, 4 * h, 3, tree_out, sizeof tree_out,
-                      numbers_out, numbers_len, &amount);
+/* A box, and what its slip has beside it and level 3. */
+struct slip {
+  size_t u0, v0, u1, v1, length, active[4], visited;
+};
+
+/* The slips of the whole sheet, and of the quarter square that holds the point of the readings. */
+static struct slip of_sheet, of_quarter;
+
+static unsigned enquire_box(struct slip *slip) {
+  return CALL(enquire)(w, h, tree, tree_len, numbers, numbers_len, slip->u0, slip->v0, slip->u1, slip->v1, 3,
+                       &slip->length, slip->active, &slip->visited);
+}
+
+static unsigned commit_box(const struct slip *slip) {
+  return CALL(commit)(w, h, tree, tree_len, numbers, numbers_len, slip->u0, slip->v0, slip->u1, slip->v1, 3,
+                      slip->length, slip->active, slip->visited, tree_out, sizeof tree_out, numbers_out, numbers_len,
+                      &amount);
+}
+
+static unsigned enquire(void) {
+  return enquire_box(&of_sheet);
+}
+
+static unsigned commit(void) {
+  return commit_box(&of_sheet);
+}
+
+static unsigned enquire_at(void) {
+  return enquire_box(&of_quarter);
+}
+
+static unsigned commit_at(void) {
+  return commit_box(&of_quarter);
 }
 
 static int64_t whole;
@@ -144,7 +174,8 @@ struct call {
 
 static const struct call calls[] = {
   {"nothing", nothing}, {"table_cause", table_cause}, {"least_level", least_level}, {"least_at", least_at},
-  {"activity", activity}, {"fresh", fresh}, {"set", set}, {"insert", insert},
+  {"activity", activity}, {"fresh", fresh}, {"set", set}, {"enquire", enquire}, {"commit", commit},
+  {"enquire_at", enquire_at}, {"commit_at", commit_at},
   {"exact", exact}, {"exact_1", exact_1}, {"exact_2", exact_2}, {"watts", watts}, {"display", display}, {"cost", cost},
   {"watts_2", watts_2}, {"slopes", slopes}, {"slopes_2", slopes_2},
   {"read_file", read_file}, {"read_uncounted", read_uncounted}, {"read_noted", read_noted},
@@ -253,6 +284,11 @@ static bool get_input(void) {
 int main(int argc, char **argv) {
   char **names = argv + 2;
   if (argc < 2 || !get_input()) return 2;
+  size_t q = points[0].u / 32, r = points[0].v / 32;
+  of_sheet = (struct slip){.u1 = 4 * w, .v1 = 4 * h};
+  of_quarter = (struct slip){.u0 = q, .v0 = r, .u1 = q + 1, .v1 = r + 1};
+  /* A commit needs the slip of an enquiry. */
+  if (enquire() || enquire_at()) return 1;
   /* No call may refuse; made once beforehand, none pays for being the first. A note is read and written where one is
      named. */
   for (int k = 0; k < CALLS; k++)

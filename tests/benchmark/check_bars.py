@@ -9,15 +9,15 @@ import re
 import sys
 from argparse import ArgumentParser
 from functools import partial
-from typing import Callable, Iterator, List, Tuple
+from typing import Callable, Iterator, List, Optional, Tuple
 
 sys.dont_write_bytecode = True
 
 import bars
 from calls import watts_at
 from measure import BEYONDS, CALLS, EXACT, EXACT_1, EXACT_2, LARGEST, LARGEST_FILE, MEASURED, READ, READ_UNCOUNTED
-from measure import READINGS, ROOT, SLOPES_BEYONDS, UNREFINED, Figures, Measured, all_figures, calls_on, counted_on
-from measure import point_of, stacked_on, table_names, tables
+from measure import READINGS, REFINING_BEYONDS, ROOT, SLOPES_BEYONDS, UNREFINED, Figures, Measured, all_figures
+from measure import calls_on, counted_on, point_of, stacked_on, table_names, tables
 
 PAGE, HEADER = ROOT / "docs/BENCHMARKS.md", ROOT / "include/kiln.h"
 # What reads a file, what writes one, what reads at a point, and what gives slopes there, named here again.
@@ -26,6 +26,8 @@ WRITTEN = ("write_file", "write_noted")
 BESIDE_EXACT = ("watts", "display", "cost")
 READ_AT_POINT = (EXACT, EXACT_1, EXACT_2, *BESIDE_EXACT)
 SLOPES_AT = ("slopes", "slopes_2")
+# Enquiries and commits, each pair with its place in bars.INSERTED_BEFORE.
+ENQUIRED, COMMITTED = {"enquire": 0, "enquire_at": 1}, {"commit": 0, "commit_at": 1}
 # The level of the quarter square at which an exact reading is taken, by the kind of table. On a fully split one the
 # level of quarter (q, r) is q % 2 + r % 2, and the points lie in quarters (2 W, 2 H), (2 W + 1, 2 H) and
 # (2 W + 1, 2 H + 1).
@@ -36,12 +38,17 @@ LEVELS = {"unrefined": {EXACT: 0, EXACT_1: 0, EXACT_2: 0}, "fully split": {EXACT
 Push = Tuple[str, str, Callable[[int], Figures], Tuple[str, ...]]
 
 
-def made_up(table: str = "", call: str = "", ours: int = 100, theirs: int = 100, stack: int = 100,
-            corners: int = 100) -> Figures:
-    """Figures that are all 100, but for those of one call on one table and of the corner program."""
-    def on(name: str, count: int) -> Measured:
+def usual(call: str) -> int:
+    """The count of a call that is made up: 100, and a commit's one more, since an enquiry is to take less."""
+    return 100 + (call in COMMITTED)
+
+
+def made_up(table: str = "", call: str = "", ours: Optional[int] = None, theirs: Optional[int] = None,
+            stack: int = 100, corners: int = 100) -> Figures:
+    """Figures that are all as usual, but for those of one call on one table and of the corner program."""
+    def on(name: str, count: Optional[int]) -> Measured:
         this = {call} if name == table else set()
-        return Measured({one: count if one in this else 100 for one in counted_on(name)},
+        return Measured({one: count if one in this and count is not None else usual(one) for one in counted_on(name)},
                         {one: stack if one in this else 100 for one in stacked_on(name)}, {})
     names = table_names()
     return Figures({name: on(name, ours) for name in names}, {name: on(name, theirs) for name in names}, corners)
@@ -53,7 +60,7 @@ def by_count(table: str, call: str, bar: int, past: int) -> Figures:
 
 
 def by_ratio(table: str, call: str, bar: float, past: int) -> Figures:
-    return made_up(table, call, ours=round(100 * bar) + past)
+    return made_up(table, call, ours=round(100 * bar) + past, theirs=100)
 
 
 def by_stack(table: str, call: str, bar: int, past: int) -> Figures:
@@ -68,9 +75,10 @@ def pushes() -> Iterator[Push]:
     """Every figure that a bar is held of, by itself: no code of bars.py says which these are."""
     for table in table_names():
         for call in calls_on(table):
-            # So far past C an f64 reading takes 20 more than the exact one, and watts and slopes 1.2 times an f64
-            # reading, which is past their bars.
-            lower = ("watts",) if call == "watts" else ("slopes",) if call in SLOPES_AT else ()
+            # So far past C an f64 reading takes 20 more than the exact one, watts and slopes 1.2 times an f64 reading,
+            # and an enquiry more than a commit, which is past their bars.
+            lower = ("watts",) if call == "watts" else ("slopes",) if call in SLOPES_AT else (
+                ("enquiry first",) if call in ENQUIRED else ())
             yield "ratio", f"{MEASURED[call]}, {table}", partial(by_ratio, table, call, bars.RATIO), lower
         for call in stacked_on(table):
             lower = ("reading stack",) if call in READ_AT_POINT else ()
@@ -84,8 +92,18 @@ def pushes() -> Iterator[Push]:
         for call in set(SLOPES_AT) & set(calls_on(table)):
             bar = round(bars.OVER_WATTS * made_up().library[table].counts["watts"])
             yield "slopes", f"{MEASURED[call]}, {table}", partial(by_count, table, call, bar), ()
+        for call in set(ENQUIRED) & set(calls_on(table)):
+            bar = bars.INSERTED_BEFORE[table][ENQUIRED[call]] - 1
+            yield "enquiry", f"{MEASURED[call]}, {table}", partial(by_count, table, call, bar), ("enquiry first",)
+            yield "enquiry first", f"{MEASURED[call]}, {table}", partial(by_count, table, call, usual("commit") - 1), ()
+        for call in set(COMMITTED) & set(calls_on(table)):
+            bar = round(100 * bars.OVER_INSERTION) * bars.INSERTED_BEFORE[table][COMMITTED[call]] // 100
+            yield "commit", f"{MEASURED[call]}, {table}", partial(by_count, table, call, bar), ()
         for call in SLOPES_AT[:1] if table == LARGEST_FILE else SLOPES_AT:
             beyond = SLOPES_BEYONDS[call]
+            yield "ratio", f"{beyond}, {table}", partial(by_ratio, table, beyond, bars.RATIO), ()
+        for call in {**ENQUIRED, **COMMITTED} if table != LARGEST_FILE else ():
+            beyond = REFINING_BEYONDS[call]
             yield "ratio", f"{beyond}, {table}", partial(by_ratio, table, beyond, bars.RATIO), ()
         for call in (READ, READ_UNCOUNTED):
             bar = bars.READ_BEFORE_COUNTS[table] + bars.MORE_FOR_COUNTS
@@ -101,11 +119,11 @@ def pushes() -> Iterator[Push]:
             ("check", LARGEST, "table_cause", bars.CHECK),
             ("unrefined", UNREFINED, "table_cause", bars.CHECK_UNREFINED),
             *(("reading", LARGEST, call, bars.READING) for call in READINGS),
-            ("insertion", LARGEST, "insert", bars.INSERTION),
+            *(("committing", LARGEST, call, bars.COMMITTING) for call in COMMITTED),
             *(("file reading", LARGEST_FILE, call, bars.FILE_READING) for call in READ_BY),
             *(("file writing", LARGEST_FILE, call, bars.FILE_WRITING) for call in WRITTEN)):
-        lower = (call,) if call in BESIDE_EXACT else () if call not in READ_BY else (
-            ("counts", "note") if call in (READ, READ_UNCOUNTED) else ("note",))
+        lower = (call,) if call in BESIDE_EXACT else ("commit",) if call in COMMITTED else (
+            () if call not in READ_BY else ("counts", "note") if call in (READ, READ_UNCOUNTED) else ("note",))
         yield name, f"{MEASURED[call]}, {table}", partial(by_count, table, call, bar), lower
     yield "corners", LARGEST_FILE, by_corners, ()
 

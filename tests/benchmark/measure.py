@@ -28,12 +28,13 @@ from tree import level_map
 READINGS = {"exact": "Exact reading", "watts": "Reading as f64", "display": "Display", "cost": "Cost"}
 SLOPED = {"slopes": "Watts and slopes"}
 CALLS = {"table_cause": "Table check", "least_level": "Least level", "activity": "Activity", "fresh": "Fresh table",
-         "set": "Set", "insert": "Insertion", **READINGS, **SLOPED, "read_file": "File reading",
+         "set": "Set", "enquire": "Enquiry", "commit": "Commit", **READINGS, **SLOPED, "read_file": "File reading",
          "read_bench": "Bench reading", "write_file": "File writing"}
 # What is measured: each call, those of files with counts and no note; the least level under the point's quarter square
-# too, the exact reading at two points more, that as f64 and watts and slopes at the last of them, file reading without
-# counts, and reading by both loaders and writing with a note.
+# too, the enquiry and the commit of it, the exact reading at two points more, that as f64 and watts and slopes at the
+# last of them, file reading without counts, and reading by both loaders and writing with a note.
 CHECKED, LEAST_AT = "table_cause", "least_at"
+ENQUIRE, COMMIT, ENQUIRE_AT, COMMIT_AT = "enquire", "commit", "enquire_at", "commit_at"
 EXACT, EXACT_1, EXACT_2 = "exact", "exact_1", "exact_2"
 WATTS, WATTS_2, SLOPES, SLOPES_2 = "watts", "watts_2", "slopes", "slopes_2"
 AT_LEVEL = {EXACT_1: ", at a point of level 1 of a split table", EXACT_2: ", at a point of level 2 of a split table"}
@@ -41,7 +42,8 @@ READ, READ_UNCOUNTED, READ_NOTED = "read_file", "read_uncounted", "read_noted"
 BENCH, BENCH_NOTED = "read_bench", "bench_noted"
 WRITE, WRITE_NOTED = "write_file", "write_noted"
 LOADS, WRITES = (READ, READ_UNCOUNTED, READ_NOTED, BENCH, BENCH_NOTED), (WRITE, WRITE_NOTED)
-MEASURED = {**CALLS, LEAST_AT: "Least level, under a point",
+MEASURED = {**CALLS, LEAST_AT: "Least level, under a point", ENQUIRE_AT: "Enquiry, of one quarter square",
+            COMMIT_AT: "Commit, of one quarter square",
             **{call: READINGS[EXACT] + where for call, where in AT_LEVEL.items()},
             WATTS_2: READINGS[WATTS] + AT_LEVEL[EXACT_2], SLOPES_2: SLOPED[SLOPES] + AT_LEVEL[EXACT_2],
             READ_UNCOUNTED: "File reading, without counts", READ_NOTED: "File reading, with a note",
@@ -55,6 +57,9 @@ BEYOND = "Exact reading beyond the table check"
 BEYONDS = {EXACT: BEYOND, **{call: BEYOND + where for call, where in AT_LEVEL.items()}}
 SLOPES_BEYOND = "Watts and slopes beyond the table check"
 SLOPES_BEYONDS = {SLOPES: SLOPES_BEYOND, SLOPES_2: SLOPES_BEYOND + AT_LEVEL[EXACT_2]}
+# What enquiries and commits take beyond it, by the call.
+REFINING_BEYONDS = {call: f"{MEASURED[call]}, beyond the table check"
+                    for call in (ENQUIRE, COMMIT, ENQUIRE_AT, COMMIT_AT)}
 POINTS = {EXACT: (5, 7), EXACT_1: (37, 7), EXACT_2: (37, 39)}
 SIZES, TURNS = (1, 4, 8), 3
 LARGEST, UNREFINED, LARGEST_FILE = "8 by 8, fully split", "8 by 8, unrefined", "8 by 8, all of level 3"
@@ -118,9 +123,15 @@ def slopes_beyond_on(table: str) -> Dict[str, str]:
     return {SLOPES: SLOPES_BEYOND} if table == LARGEST_FILE else SLOPES_BEYONDS
 
 
+def refining_beyond_on(table: str) -> Dict[str, str]:
+    """The enquiries and commits that are measured beyond the table check: those that are measured."""
+    return {call: title for call, title in REFINING_BEYONDS.items() if call in calls_on(table)}
+
+
 def counted_on(table: str) -> Tuple[str, ...]:
-    """What has a count on a table: its calls, and the exact readings and watts and slopes beyond the table check."""
-    return (*calls_on(table), *beyond_on(table).values(), *slopes_beyond_on(table).values())
+    """What has a count on a table: its calls, and what some of them take beyond the table check."""
+    return (*calls_on(table), *beyond_on(table).values(), *slopes_beyond_on(table).values(),
+            *refining_beyond_on(table).values())
 
 
 def stacked_on(table: str) -> Tuple[str, ...]:
@@ -187,7 +198,7 @@ def counted(program: str, text: str, *call: str) -> Dict[str, int]:
                 counts[name.group(1)] = int(re.search(r"^summary: (\d+)$", words, re.M).group(1))
     nothing = counts.pop("nothing")
     counts = {name: count - nothing for name, count in counts.items()}
-    beyonds = {**BEYONDS, **SLOPES_BEYONDS}.items()
+    beyonds = {**BEYONDS, **SLOPES_BEYONDS, **REFINING_BEYONDS}.items()
     counts.update({title: counts[one] - counts[CHECKED] for one, title in beyonds if one in counts})
     return counts
 

@@ -22,9 +22,13 @@ uint8_t CALL(fresh)(size_t w, size_t h, int64_t number, uint8_t *tree_out, size_
                     size_t numbers_len, size_t *length);
 uint8_t CALL(set)(size_t w, size_t h, const uint8_t *tree, size_t tree_len, int64_t *numbers, size_t numbers_len,
                   size_t level, int64_t i, int64_t j, int64_t number);
-uint8_t CALL(insert)(size_t w, size_t h, const uint8_t *tree, size_t tree_len, const int64_t *numbers,
-                     size_t numbers_len, size_t u0, size_t v0, size_t u1, size_t v1, size_t level, uint8_t *tree_out,
-                     size_t tree_out_len, int64_t *numbers_out, size_t numbers_out_len, size_t *length);
+uint8_t CALL(enquire)(size_t w, size_t h, const uint8_t *tree, size_t tree_len, const int64_t *numbers,
+                      size_t numbers_len, size_t u0, size_t v0, size_t u1, size_t v1, size_t level, size_t *slip_length,
+                      size_t *slip_active, size_t *slip_visited);
+uint8_t CALL(commit)(size_t w, size_t h, const uint8_t *tree, size_t tree_len, const int64_t *numbers,
+                     size_t numbers_len, size_t u0, size_t v0, size_t u1, size_t v1, size_t level, size_t slip_length,
+                     const size_t *slip_active, size_t slip_visited, uint8_t *tree_out, size_t tree_out_len,
+                     int64_t *numbers_out, size_t numbers_out_len, size_t *length);
 uint8_t CALL(exact)(size_t w, size_t h, const uint8_t *tree, size_t tree_len, const int64_t *numbers,
                     size_t numbers_len, size_t u, size_t v, int64_t *numerator);
 uint8_t CALL(watts)(size_t w, size_t h, const uint8_t *tree, size_t tree_len, const int64_t *numbers,

@@ -11,7 +11,7 @@
 enum {
   BAD_SIDE = 1, BAD_TREE, BAD_LENGTH, OVER_LIMIT, PASSIVE_NOT_0, OFF_SHEET, BAD_BOX, BAD_LEVEL, NOT_ACTIVE, BAD_NUMBER,
   BAD_TARIFF, FILE_ENDS, BAD_TAG, BAD_FIELD, BYTES_AFTER, BAD_OUTPUT, TREE_OUTPUT_SHORT, FILE_OUTPUT_SHORT,
-  BAD_COUNT = 20
+  NOT_ITS_SLIP, BAD_COUNT
 };
 
 /* The tree covers 32 by 32 quarters. */
@@ -96,6 +96,22 @@ static inline bool four_equal(const uint8_t *leaf) {
   return leaf[0] == leaf[1] && leaf[0] == leaf[2] && leaf[0] == leaf[3];
 }
 
+/* A word with the n bits from x on set. */
+static inline uint32_t span(size_t x, size_t n) {
+  return UINT32_MAX >> (QUARTERS - n) << x;
+}
+
+/* Raises a single quarter square: most leaves of a deep tree are such. */
+static inline void raise_quarter(struct regions *regions, size_t x, size_t y, uint8_t level) {
+  uint32_t mask = (uint32_t)1 << x;
+  if (level < 1) return;
+  regions->row[0][y] |= mask;
+  if (level < 2) return;
+  regions->row[1][y] |= mask;
+  if (level < 3) return;
+  regions->row[2][y] |= mask;
+}
+
 /* Raises the quarter squares of a box to a level; those above it stay. */
 void raise_box(struct regions *regions, const struct box *box, size_t level);
 
@@ -107,6 +123,9 @@ struct marks inside_row(const struct regions *regions, size_t w, size_t h, size_
 
 /* The active functions of row b of a level. */
 struct marks active_row(const struct regions *regions, size_t w, size_t h, size_t level, size_t b);
+
+/* The nodes of a tree that are visited for the levels under a box. */
+size_t visited_under(const uint8_t *tree, const struct box *box);
 
 /* How many functions of each level are active. */
 void count_active(const struct regions *regions, size_t w, size_t h, size_t counts[LEVELS]);

@@ -1,26 +1,10 @@
 /* Regions as rows of bits in plain C: one walk judges a tree and paints it; the functions in a region, row by row. */
 #include "plain_inside.h"
 
-/* A word with the n bits from x on set. */
-static inline uint32_t span(size_t x, size_t n) {
-  return UINT32_MAX >> (QUARTERS - n) << x;
-}
-
 void raise_box(struct regions *regions, const struct box *box, size_t level) {
   uint32_t mask = span(box->u0, box->u1 - box->u0);
   for (size_t l = 0; l < level; l++)
     for (size_t r = box->v0; r < box->v1; r++) regions->row[l][r] |= mask;
-}
-
-/* Raises a single quarter square: most leaves of a deep tree are such. */
-static inline void raise_quarter(struct regions *regions, size_t x, size_t y, uint8_t level) {
-  uint32_t mask = (uint32_t)1 << x;
-  if (level < 1) return;
-  regions->row[0][y] |= mask;
-  if (level < 2) return;
-  regions->row[1][y] |= mask;
-  if (level < 3) return;
-  regions->row[2][y] |= mask;
 }
 
 /* What a walk of a tree has at hand: the tree's end, the sheet's sides in quarters, the regions to paint. */

@@ -72,6 +72,12 @@ static const uint8_t *visit(const uint8_t *at, size_t x, size_t y, size_t side, 
   return visit(at, x + half, y + half, half, box, found);
 }
 
+size_t visited_under(const uint8_t *tree, const struct box *box) {
+  struct found found = {LEAF_MAX, 0, 0};
+  visit(tree, 0, 0, QUARTERS, box, &found);
+  return found.visited;
+}
+
 uint8_t plain_least_level(size_t w, size_t h, const uint8_t *tree, size_t tree_len, size_t u0, size_t v0, size_t u1,
                           size_t v1, uint8_t *least, uint8_t *greatest, size_t *visited) {
   struct regions regions;

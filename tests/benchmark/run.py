@@ -1,4 +1,5 @@
-"""Instructions, time and stack of each call, of the library and of the plain C program, into docs/BENCHMARKS.md.
+"""Instructions, time and stack of each call, of the library and of the plain C program, into docs/BENCHMARKS.md, and of
+its further inputs into docs/BENCHMARKS-INPUTS.md.
 
 Run as: python3 tests/benchmark/run.py; a line for each figure above its bar, and exit code 1 then.
 """
@@ -14,8 +15,8 @@ from typing import Dict, List
 sys.dont_write_bytecode = True
 
 import bars
-from measure import BEYONDS, CALLS, LARGEST_FILE, MEASURED, OF_FILES, READ, ROOT, SLOPES_2, SLOPES_BEYONDS, Figures
-from measure import Measured, all_figures, file_of, tables
+from measure import BEYONDS, CALLS, LARGEST_FILE, MEASURED, OF_FILES, READ, REFINING_BEYONDS, ROOT, SLOPES_2
+from measure import SLOPES_BEYONDS, Figures, Measured, all_figures, file_of, tables
 
 
 def processor() -> str:
@@ -34,8 +35,9 @@ def paragraphs() -> List[str]:
         "many rounds that both programs made by turns. In that directory `run.py` makes this page, whose figures are "
         "those of the day it was made, and `check_plain.py` holds the C program to the evaluator.",
         "The least level, with the greatest, is asked over the whole sheet, and under the quarter square that holds "
-        "the point of the readings; the activity of level 3; one coefficient of level 0 is set; the whole sheet is "
-        "raised to level 3; readings are taken at (64 W + 5, 64 H + 7), in a quarter square of level 0; the exact one "
+        "the point of the readings; the activity of level 3; one coefficient of level 0 is set; enquiries are made for "
+        "raising the whole sheet, and that quarter square, to level 3, and their slips are committed; readings are "
+        "taken at (64 W + 5, 64 H + 7), in a quarter square of level 0; the exact one "
         "also at (64 W + 37, 64 H + 7) and at (64 W + 37, 64 H + 39), which on the fully split tables lie in quarter "
         "squares of level 1 and of level 2, and on the unrefined ones of level 0; the f64 reading and watts and slopes "
         "at the first and the last of these points; the exact reading and watts and slopes beyond the table "
@@ -56,7 +58,7 @@ def bar_table(figures: Figures) -> List[str]:
              "anew, compares each figure that a bar speaks of, on every table, and fails where one is above its bar. "
              "Before that it tries itself on made-up figures just past each bar, and sees that the bars below are "
              "those of `bars.py`. Times are compared with nothing, since they do not repeat as counts do; the "
-             f"greatest ratio of times on this page is {slowest:.2f}. `docs/DECISIONS.md` says where each bar comes "
+             f"greatest ratio of times is {slowest:.2f}. `docs/DECISIONS.md` says where each bar comes "
              "from.")
     return ["", "## Bars", "", fill(words, 116, break_on_hyphens=False), "", "| what | bar | greatest figure |",
             "|---|---|---|",
@@ -95,11 +97,8 @@ def page(figures: Figures) -> str:
     for words in paragraphs():
         lines += ["", fill(words, 116, break_on_hyphens=False)]
     lines += bar_table(figures)
-    beyonds = *BEYONDS.values(), *SLOPES_BEYONDS.values()
-    for call, title in (*MEASURED.items(), *((beyond, beyond) for beyond in beyonds)):
-        # At its second point watts and slopes are shown beyond the table check alone.
-        if call != SLOPES_2:
-            lines += call_table(call, title, figures)
+    for call, title in CALLS.items():
+        lines += call_table(call, title, figures)
     lines += ["", "## Stack", "", "Bytes of stack down to the lowest that one call changes, the greatest over these "
               "tables.", "", "| call | library | C |", "|---|---|---|"]
     for call, title in MEASURED.items():
@@ -112,9 +111,23 @@ def page(figures: Figures) -> str:
     return "\n".join(lines) + "\n"
 
 
+def inputs_page(figures: Figures) -> str:
+    """Calls on further inputs, and beyond the table check."""
+    lines = ["# Benchmarks, further inputs", "",
+             fill("As `docs/BENCHMARKS.md`, which says how the figures are made: the same calls on other inputs, and "
+                  "what they take beyond the table check.", 116)]
+    beyonds = *BEYONDS.values(), *SLOPES_BEYONDS.values(), *REFINING_BEYONDS.values()
+    for call, title in (*MEASURED.items(), *((beyond, beyond) for beyond in beyonds)):
+        # At its second point watts and slopes are shown beyond the table check alone.
+        if call not in CALLS and call != SLOPES_2:
+            lines += call_table(call, title, figures)
+    return "\n".join(lines) + "\n"
+
+
 def main() -> int:
     figures = all_figures(with_times=True)
     (ROOT / "docs/BENCHMARKS.md").write_text(page(figures), encoding="utf-8")
+    (ROOT / "docs/BENCHMARKS-INPUTS.md").write_text(inputs_page(figures), encoding="utf-8")
     faults = bars.missed(figures)
     for fault in faults:
         print(f"bar not met: {fault}")

@@ -55,14 +55,15 @@ def bench(u: float, v: float) -> float:
 
 
 def refined(lib: Library, file: bytes, boxes: Boxes) -> bytes:
-    """The file, without counts, of a table after the library's insertion of each box, and nothing else."""
+    """The file, without counts, of a table after the library's insertion of each box, by an enquiry and a commit, and
+    nothing else."""
     w, h, tree, coefficients = tablefile.judge(file)
     for box, level in boxes:
         tree_out, numbers_out = octets([0] * quadtree.GREATEST_TREE), numbers([0] * len(coefficients))
         got = lib.insert(w, h, octets(tree), numbers(coefficients), box, level, tree_out, numbers_out)
-        if got.cause:
-            raise ValueError(f"the insertion of {box} is refused with {got.cause}")
-        tree, coefficients = tree_out.values()[: got.said()[1]], numbers_out.values()
+        if got.commit.cause:
+            raise ValueError(f"the insertion of {box} is refused with {got.commit.cause}")
+        tree, coefficients = tree_out.values()[: got.commit.said()[1]], numbers_out.values()
     return tablefile.write_file(w, h, tree, coefficients, counted=False)
 
 

@@ -9,13 +9,17 @@ from typing import List, Tuple
 sys.path.insert(0, str(Path(__file__).resolve().parents[1] / "evaluator"))
 
 import calls
+import enquiries
 import samples
 import tree as quadtree
+from enquiries import Slip
 from surface import LEVELS, place_count, total_places
 
 LEAST, GREATEST = -(2**63), 2**63 - 1
 ODD_SIDES = (0, 9, 2**32 + 1, 2**64 - 1)
 ODD_LEVELS = (0, 4, 257, 2**32 + 2, 2**64 - 1)
+# Numbers of a slip that no table gives, and some that one might.
+ODD_NUMBERS = (0, 1, 4, 13, 16, 25, 1_365, 4_489, 2**16, 2**32 + 13, 2**63, 2**64 - 1)
 TARIFFS = (0, 1, 1_499, 1_500, 99_999, 100_000, 2**63)
 # A length kept in 16 bits is right but for so many elements.
 LONGER = 65_536
@@ -241,6 +245,21 @@ def insertion(rng: Random, t: samples.Table) -> samples.Insertion:
     return samples.Insertion(given, level, [at % 251 for at in range(tree_length)], list(range(7, 7 + numbers_length)))
 
 
+def slip(rng: Random, t: samples.Table, given: Tuple[int, int, int, int], level: int) -> Slip:
+    """A slip for a commit: the table's own for this box and level in half of the draws, else one near it, of another
+    table, or of any numbers."""
+    own, kind = calls.judge_insertion(*t, given, level) is None, rng.random()
+    if kind < 0.3 and own:
+        return enquiries.slip_of(*t[:3], given, level)
+    if kind < 0.8:
+        return samples.whatever_slip(rng, t, given, level)
+    if kind < 0.9:
+        other = insertion_table(rng)
+        return enquiries.slip_of(*other[:3], samples.random_box(rng, other.w, other.h), rng.choice((1, 2, 3)))
+    return Slip(given, level, rng.choice(ODD_NUMBERS), tuple(rng.choice(ODD_NUMBERS) for _ in LEVELS),
+                rng.choice(ODD_NUMBERS))
+
+
 def grid(w: int, h: int) -> List[samples.Point]:
     """Every point of a sheet's grid."""
     return [(u, v) for v in range(128 * h + 1) for u in range(128 * w + 1)]
@@ -253,8 +272,8 @@ def _some_of_grid(rng: Random, stride: int) -> List[samples.Point]:
 
 
 def reading_points(rng: Random, w: int, h: int) -> List[samples.Point]:
-    """Where a list of insertions is read before and after it: on 1 by 1 the grid, seldom all of it, else at random;
-    and at one point beyond the sheet."""
+    """Where a list of enquiries and commits is read before and after it: on 1 by 1 the grid, seldom all of it, else at
+    random; and at one point beyond the sheet."""
     w, h = min(w, 8) or 1, min(h, 8) or 1
     beyond = rng.choice(((128 * w + 1, 0), (0, 128 * h + 1)))
     if (w, h) == (1, 1):

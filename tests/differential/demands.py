@@ -1,6 +1,6 @@
 """Demand 3 of the compiled library's readings: linear in the coefficients, and between those around the point.
 
-That no list of insertions moves a reading is in insertions.py.
+That no list of enquiries and commits moves a reading is in insertions.py.
 """
 from __future__ import annotations
 

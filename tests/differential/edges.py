@@ -10,7 +10,7 @@ from typing import Iterator, List, Sequence, Tuple
 import insertions
 from cases import calls, quadtree, samples
 from files import both_files, read, small
-from library import Library, differ, numbers, octets
+from library import Library, differ, insertion_differs, numbers, octets
 from saving import GREATEST_FILE, file_length, write
 from surface import D, LEVELS, TREE_SIDE, Box, LevelMap, coefficient_limit, place_count, total_places
 from tables import AT_POINT, READINGS, read_at, words
@@ -81,7 +81,7 @@ def boxes(lib: Library) -> Iterator[str]:
             yield differ(f"least_level, {told}", lib.least_level(w, h, octets([0]), box), ("refused", 7))
             tree_out, numbers_out = room(t)
             got = lib.insert(*lent(t), box, 1, octets(tree_out), numbers(numbers_out))
-            yield differ(f"insert, {told}", got, ("refused", 7))
+            yield insertion_differs(f"insert, {told}", got, ("refused", 7))
 
 
 def halves(lib: Library) -> Iterator[str]:
@@ -181,7 +181,7 @@ def long_tables(lib: Library, t: samples.Table, due: int) -> Iterator[str]:
     told = f"{len(t.tree)} bytes and {len(t.coefficients)} numbers"
     yield differ(f"table, {told}", lib.table_cause(*lent(t)), want)
     yield differ(f"set, {told}", lib.set_coefficient(*lent(t), 0, -2, -2, 5), want)
-    yield differ(f"insert, {told}", lib.insert(*lent(t), (0, 0, 4, 4), 1, *outputs), want)
+    yield insertion_differs(f"insert, {told}", lib.insert(*lent(t), (0, 0, 4, 4), 1, *outputs), want)
     yield from (write(lib, t, length) for length in (100, 200))
     for name in READINGS:
         place = (9, 9, 1_500) if name == "cost" else (9, 9)

@@ -1,5 +1,5 @@
-"""Fixed cases: document 01's bench sheet, two faults at once, edges, table files, and whole grids around insertions;
-then all that was seen in them saved and loaded again."""
+"""Fixed cases: document 01's bench sheet, two faults at once, edges, table files, and whole grids around lists of
+enquiries and commits; then all that was seen in them saved and loaded again."""
 from __future__ import annotations
 
 from functools import partial
@@ -15,9 +15,10 @@ import insertions
 import noted_files
 import quarter_levels
 import saving
+import slips
 import slopes
 from cases import samples
-from library import Library, differ, numbers, octets
+from library import Library, differ, insertion_differs, numbers, octets
 from tables import AT_POINT, READINGS
 
 FLAT, REFINED, WHOLE = [0], [4, 4, 4, 1] + [0] * 9, (0, 0, 4, 4)
@@ -60,10 +61,11 @@ def reading(lib: Library, words: str, name: str, tree: List[int], values: List[i
 def insertion(lib: Library, words: str, w: int, h: int, tree: List[int], values: List[int],
               box: Tuple[int, int, int, int], level: int, lengths: Tuple[int, int], want: Tuple,
               *after: Sequence[int]) -> str:
-    """An insertion into outputs of these lengths: the table after it, or, of a refusal, nothing."""
+    """An insertion into outputs of these lengths, by an enquiry and a commit: the table after it, or, of a refusal,
+    nothing."""
     tree_out, numbers_out = octets([9] * lengths[0]), numbers([7] * lengths[1])
     got = lib.insert(w, h, octets(tree), numbers(values), box, level, tree_out, numbers_out)
-    return differ(words, got, want, *zip((tree_out, numbers_out), after))
+    return insertion_differs(words, got, want, *zip((tree_out, numbers_out), after))
 
 
 def saved(lib: Library, words: str, w: int, h: int, tree: List[int], values: List[int], length: int, want: Tuple,
@@ -202,7 +204,7 @@ def two_faults_of_tables(lib: Library) -> List[str]:
         outputs = octets([9] * 20), numbers([7] * 211)
         faults.append(differ(f"table, {words}", lib.table_cause(*lent), want))
         faults.append(differ(f"set, {words}", lib.set_coefficient(*lent, 0, -2, -2, 5), want))
-        faults.append(differ(f"insert, {words}", lib.insert(*lent, WHOLE, 1, *outputs), want))
+        faults.append(insertion_differs(f"insert, {words}", lib.insert(*lent, WHOLE, 1, *outputs), want))
         faults += [saved(lib, f"{words}, into {length}", *t, length, want) for length in (0, 100, saving.GREATEST_FILE)]
         for name in READINGS:
             place = (9, 9, 1_500) if name == "cost" else (9, 9)
@@ -251,17 +253,18 @@ def two_faults_of_calls(lib: Library) -> List[str]:
 
 
 def whole_grids(rng: Random, lib: Library) -> List[str]:
-    """Lists of insertions into a 1 by 1 and a 2 by 1 table, read at every point of the grid before and after."""
+    """Lists of enquiries and commits on a 1 by 1 and a 2 by 1 table, read at every point of the grid before and
+    after."""
     return [fault for w in (1, 2) for fault in
             insertions.list_made(rng, lib, samples.random_table(rng, w, 1, boxes=1), 6, cases.grid(w, 1))]
 
 
 def faults(lib: Library, seed: int, grids: bool) -> List[str]:
-    """What is not as it should be in any fixed case, whole grids among them or not; the seed draws lists of insertions,
-    tables and files, but nothing of the levels, the costs and the slopes."""
+    """What is not as it should be in any fixed case, whole grids among them or not; the seed draws lists of enquiries
+    and commits, tables and files, but nothing of the levels, the costs, the slopes and the slips."""
     found = bench_sheet(lib) + bench_readings(lib) + bench_insertions(lib) + bench_files(lib)
     found += two_faults_of_tables(lib) + two_faults_of_calls(lib)
-    found += quarter_levels.fixed(lib) + costs.fixed(lib) + slopes.fixed(lib)
+    found += quarter_levels.fixed(lib) + costs.fixed(lib) + slopes.fixed(lib) + slips.fixed(lib)
     if grids:
         found += whole_grids(Random(seed), lib)
     for part in (edges, files, counted_files, noted_files):

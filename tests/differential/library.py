@@ -4,21 +4,30 @@ from __future__ import annotations
 import ctypes
 import struct
 import subprocess
+import sys
 import tempfile
 from array import array
 from pathlib import Path
 from typing import Callable, Dict, List, NamedTuple, Optional, Sequence, Tuple
 
 ROOT = Path(__file__).resolve().parents[2]
+sys.path.insert(0, str(ROOT / "tests/evaluator"))
+
+from enquiries import Slip
+from surface import Box
+
 MASK = (1 << 64) - 1
 # A table: its sides, its tree, and its numbers as they lie in memory.
 Held = Tuple[int, int, bytes, bytes]
+# The least number that a commit may refuse with and no enquiry does.
+OF_COMMITS = 16
 GUARD = 64
 EDGE = b"\x5A" * GUARD
 # What a scalar holds before a call: every byte is set, and no call gives that value.
 LEAST_BEFORE, GREATEST_BEFORE, NOTED_BEFORE = 0xEE, 0xEC, 0xED
 SIZE_BEFORE = 0xE1E2_E3E4_E5E6_E7E8
 NUMBER_BEFORE = SIZE_BEFORE - 2**64
+FOUR_BEFORE = [SIZE_BEFORE - level for level in range(4)]
 # Below zero, no number, with a payload, and signalling: arithmetic on it or another "no number" in its place is seen.
 WATTS_BEFORE = 0xFFF2_3456_789A_BCDE
 
@@ -83,17 +92,31 @@ class Lent:
         return self.whole.raw == self.before
 
 
-class Scalar(Lent):
-    """One element that a call gives its answer in; it passes as a pointer alone."""
-
-    def __init__(self, code: str, before: int) -> None:
-        super().__init__(code, [before])
+class Known(Lent):
+    """A slice whose length a call knows; it passes as a pointer alone."""
 
     def passed(self) -> Tuple:
         return (self.pointer(),)
 
+
+class Scalar(Known):
+    """One element that a call gives its answer in."""
+
+    def __init__(self, code: str, before: int) -> None:
+        super().__init__(code, [before])
+
     def told(self):
         return self.values()[0]
+
+
+class Four(Scalar):
+    """Four sizes that a call gives in one, a level's each."""
+
+    def __init__(self) -> None:
+        Known.__init__(self, "Q", FOUR_BEFORE)
+
+    def told(self) -> Tuple[int, ...]:
+        return tuple(self.values())
 
 
 class Float(Scalar):
@@ -161,6 +184,21 @@ def differ(words: str, got: Answer, want: Tuple, *after: Tuple[Lent, Sequence[in
     return ""
 
 
+class Inserted(NamedTuple):
+    """An enquiry and the commit of its slip, which together are document 01's insertion."""
+
+    enquiry: Answer
+    commit: Answer
+
+
+def insertion_differs(words: str, got: Inserted, want: Tuple, *after: Tuple[Lent, Sequence[int]]) -> str:
+    """The same of an insertion: the commit's answer is wanted, and the enquiry, which writes nothing, refuses with the
+    same number where it is one of the table, the box or the level, and else accepts."""
+    early = want[0] == "refused" and want[1] < OF_COMMITS
+    asked = differ(f"{words}: the enquiry", got.enquiry, want if early else ("ok", *got.enquiry.said()[1:]))
+    return asked or differ(f"{words}: the commit", got.commit, want, *after)
+
+
 class Inside:
     """Makes calls in this process, of functions whose names start with a prefix."""
 
@@ -217,7 +255,7 @@ class Library:
             self.see(w, h, tree_out.contents()[:got.said()[1]], numbers_out.contents())
         return got
 
-    def least_level(self, w: int, h: int, tree: Lent, box: Tuple[int, int, int, int]) -> Answer:
+    def least_level(self, w: int, h: int, tree: Lent, box: Box) -> Answer:
         """The scalars receive the least level, the greatest and the nodes visited."""
         return self._call("least_level", size(w), size(h), tree, *map(size, box), Scalar("B", LEAST_BEFORE),
                           Scalar("B", GREATEST_BEFORE), Scalar("Q", SIZE_BEFORE))
@@ -229,11 +267,24 @@ class Library:
         got = self._call("fresh", size(w), size(h), number(value), tree_out, numbers_out, Scalar("Q", SIZE_BEFORE))
         return self._made(got, w, h, tree_out, numbers_out)
 
-    def insert(self, w: int, h: int, tree: Lent, values: Lent, box: Tuple[int, int, int, int], level: int,
-               tree_out: Lent, numbers_out: Lent) -> Answer:
-        got = self._taken("insert", w, h, tree, values, *map(size, box), size(level), tree_out, numbers_out,
-                          Scalar("Q", SIZE_BEFORE))
+    def enquire(self, w: int, h: int, tree: Lent, values: Lent, box: Box, level: int) -> Answer:
+        """The scalars receive the new tree's length, the active functions of each level, and the nodes visited."""
+        return self._taken("enquire", w, h, tree, values, *map(size, box), size(level), Scalar("Q", SIZE_BEFORE),
+                           Four(), Scalar("Q", SIZE_BEFORE))
+
+    def commit(self, w: int, h: int, tree: Lent, values: Lent, slip: Slip, tree_out: Lent, numbers_out: Lent) -> Answer:
+        """The slip's active functions are lent; the scalar receives the new tree's length."""
+        active = Known("Q", [count & MASK for count in slip.active])
+        got = self._taken("commit", w, h, tree, values, *map(size, slip.box), size(slip.level), size(slip.length),
+                          active, size(slip.visited), tree_out, numbers_out, Scalar("Q", SIZE_BEFORE))
         return self._made(got, w, h, tree_out, numbers_out)
+
+    def insert(self, w: int, h: int, tree: Lent, values: Lent, box: Box, level: int, tree_out: Lent,
+               numbers_out: Lent) -> Inserted:
+        """An enquiry, and the commit of the slip that it gives; of one with no numbers where it gives none."""
+        enquiry = self.enquire(w, h, tree, values, box, level)
+        told = (0, (0,) * 4, 0) if enquiry.cause else enquiry.said()[1:]
+        return Inserted(enquiry, self.commit(w, h, tree, values, Slip(box, level, *told), tree_out, numbers_out))
 
     def set_coefficient(self, w: int, h: int, tree: Lent, values: Lent, level: int, i: int, j: int,
                         value: int) -> Answer:

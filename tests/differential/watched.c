@@ -27,7 +27,7 @@ static void take(void *to, size_t bytes) {
 #define Q(k) ((const int64_t *)given[k].at), given[k].count
 #define I(k) ((int64_t)given[k].count)
 
-/* A buffer that receives, of bytes or numbers, or one element. */
+/* A buffer that receives, of bytes or numbers, or as many elements as the call knows. */
 static void *unknown(unsigned k) {
   VALGRIND_MAKE_MEM_UNDEFINED(given[k].at, given[k].size * given[k].count);
   return given[k].at;
@@ -44,8 +44,12 @@ static uint8_t make(const char *name) {
   if (IS(least_level)) return kiln_least_level(N(0), N(1), B(2), N(3), N(4), N(5), N(6), ONE(7), ONE(8), ONE(9));
   if (IS(activity)) return kiln_activity(N(0), N(1), B(2), N(3), OUT(4));
   if (IS(fresh)) return kiln_fresh(N(0), N(1), I(2), OUT(3), OUT(4), ONE(5));
-  if (IS(insert)) {
-    return kiln_insert(N(0), N(1), B(2), Q(3), N(4), N(5), N(6), N(7), N(8), OUT(9), OUT(10), ONE(11));
+  if (IS(enquire)) {
+    return kiln_enquire(N(0), N(1), B(2), Q(3), N(4), N(5), N(6), N(7), N(8), ONE(9), ONE(10), ONE(11));
+  }
+  if (IS(commit)) {
+    return kiln_commit(N(0), N(1), B(2), Q(3), N(4), N(5), N(6), N(7), N(8), N(9), given[10].at, N(11), OUT(12),
+                       OUT(13), ONE(14));
   }
   if (IS(set)) return kiln_set(N(0), N(1), B(2), given[3].at, given[3].count, N(4), I(5), I(6), I(7));
   if (IS(exact)) return kiln_exact(N(0), N(1), B(2), Q(3), N(4), N(5), ONE(6));

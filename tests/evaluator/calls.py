@@ -12,19 +12,8 @@ from typing import Any, Dict, List, NamedTuple, Optional, Sequence, Tuple
 import tablefile
 import tree as quadtree
 from derivatives import slopes_over
-from surface import (
-    D,
-    LEVELS,
-    QUARTERS_PER_CELL,
-    STEPS_PER_CELL,
-    Box,
-    Surface,
-    carry,
-    coefficient_limit,
-    place_count,
-    side_allowed,
-    total_places,
-)
+from surface import D, LEVELS, QUARTERS_PER_CELL, STEPS_PER_CELL, Box, Surface, carry, coefficient_limit, place_count
+from surface import side_allowed, total_places
 from tablefile import GREATEST_NOTE, NO_PART, Note, NotePart
 
 GREATEST_TARIFF = 99_999
@@ -141,7 +130,20 @@ def fresh(w: int, h: int, number: int, tree_out: Sequence[int], coefficients_out
     return _after(("ok", 1), **lent)
 
 
-# Document 01, Calls: 'Insertion reads one table and writes another'; 1 to 5, 7, 8, 16, 17.
+# Document 01, Calls: insertion's checks of what it reads, 1 to 5, 7 and 8, in that order.
+def judge_insertion(
+    w: int, h: int, tree: Sequence[int], coefficients: Sequence[int], box: Box, level: int
+) -> Optional[int]:
+    cause = judge_table(w, h, tree, coefficients)
+    if cause is None and _box_refused(w, h, box):
+        return 7
+    if cause is None and level not in (1, 2, 3):
+        return 8
+    return cause
+
+
+# Document 01, Calls: 'Insertion reads one table and writes another'; 1 to 5, 7, 8, 16, 17. Document 02, Five, splits
+# it in two (enquiries.py), of which the commit 'inserts as before'.
 # Answer ('ok', tree length); lent tree, coefficients, tree_out and coefficients_out.
 def insert(
     w: int,
@@ -154,13 +156,9 @@ def insert(
     coefficients_out: Sequence[int],
 ) -> Outcome:
     lent = {"tree": tree, "coefficients": coefficients, "tree_out": tree_out, "coefficients_out": coefficients_out}
-    cause = judge_table(w, h, tree, coefficients)
+    cause = judge_insertion(w, h, tree, coefficients, box, level)
     if cause is not None:
         return _after(refused(cause), **lent)
-    if _box_refused(w, h, box):
-        return _after(refused(7), **lent)
-    if level not in (1, 2, 3):
-        return _after(refused(8), **lent)
     tree_after = quadtree.insert_box(tree, w, h, box, level)
     cause = _outputs_refused(w, h, tree_after, tree_out, len(coefficients_out))
     if cause is not None:

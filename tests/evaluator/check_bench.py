@@ -13,6 +13,7 @@ from typing import Callable, List, Sequence, Tuple
 
 import calls
 import cost_cases
+import enquiries
 import file_cases
 import level_cases
 import note_cases
@@ -21,6 +22,9 @@ import note_properties
 import properties
 import samples
 import saved_files
+import slip_cases
+import slip_misreadings
+import slip_properties
 import slope_cases
 import slope_misreadings
 import slope_properties
@@ -154,6 +158,8 @@ def refusals(check: Check) -> None:
     cases: List[Tuple[int, calls.Outcome]] = []
     for number, table in tables:
         cases.append((number, calls.insert(*table, (4, 4, 0, 0), 9, [], [])))
+        cases.append((number, enquiries.enquire(*table, (4, 4, 0, 0), 9)))
+        cases.append((number, enquiries.commit(*table, enquiries.Slip((4, 4, 0, 0), 9, 0, (0,) * 4, 0), [], [])))
         cases.append((number, calls.set_coefficient(*table, 7, 99, 99, 2**70)))
         cases.append((number, calls.exact(*table, -1, 999)))
         cases.append((number, calls.display(*table, -1, 999)))
@@ -316,6 +322,8 @@ GROUPS = [
     ("costs beside those before", cost_cases.changes),
     ("watts and slopes", slope_cases.slopes),
     ("bounds of watts and slopes", slope_cases.bounds),
+    ("slips and enquiries", slip_cases.slips),
+    ("commits", slip_cases.commits),
     ("table files", file_cases.files),
     ("counts in a file", file_cases.counts),
     ("counts and other causes", file_cases.counts_in_order),
@@ -339,6 +347,10 @@ GROUPS = [
     ("linearity of slopes", slope_properties.linearity),
     ("refinement and slopes", slope_properties.refinement),
     ("sizes of slopes", slope_properties.sizes),
+    ("lists of enquiries and commits", slip_properties.lists),
+    ("what a slip tells and a commit leaves", slip_properties.told_and_left),
+    ("an enquiry and its commit as an insertion", slip_properties.as_insertion),
+    ("whose slip it is", slip_properties.whose),
     ("saving and loading", properties.saving),
     ("saving what was loaded", properties.saving_again),
     ("files of one table", saved_files.files_of_a_table),
@@ -351,6 +363,7 @@ GROUPS = [
     ("misreadings of the levels under a box", level_cases.greatest_misreadings),
     ("misreadings of the cost", cost_cases.cost_misreadings),
     ("misreadings of the slopes", slope_misreadings.slope_misreadings),
+    ("misreadings of slips, enquiries and commits", slip_misreadings.slip_misreadings),
     ("misreadings of saving", saved_files.saving_misreadings),
     ("misreadings of a note that is read", note_misreadings.loading_misreadings),
     ("misreadings of a note that is saved", note_misreadings.writing_misreadings),

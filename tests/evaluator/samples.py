@@ -1,11 +1,13 @@
-"""Random tables, boxes, insertions and points, made from a seeded generator; the tables of the bench sheet."""
+"""Random tables, boxes, insertions, slips and points, made from a seeded generator; the tables of the bench sheet."""
 from __future__ import annotations
 
 from random import Random
 from typing import Callable, List, NamedTuple, Sequence, Tuple
 
 import calls
+import enquiries
 import tree as quadtree
+from enquiries import Slip
 from surface import LEVELS, QUARTERS_PER_CELL, STEPS_PER_CELL, TREE_SIDE, Box, LevelMap, Surface, total_places
 
 Point = Tuple[int, int]
@@ -126,6 +128,32 @@ def random_insertion(rng: Random, w: int, h: int, total: int) -> Insertion:
     elif fault == 17:
         tree_length = 0
     return Insertion(box, level, [9] * tree_length, [7] * numbers)
+
+
+# A slip that a commit may be handed for a box and a level: in two of five draws the table's own, where it gives one;
+# else with a number off by one or by far, or the numbers of the old tree, of another level or box, or any.
+def whatever_slip(rng: Random, table: Table, box: Box, level: int) -> Slip:
+    made_up = Slip(box, level, rng.choice((0, 1, 13)), tuple(rng.choice((0, 1, 16, 25)) for _ in LEVELS), 4)
+    if calls.judge_insertion(*table, box, level) is not None:
+        return made_up
+
+    def given(other_box: Box, other_level: int) -> Slip:
+        return enquiries.slip_of(*table[:3], other_box, other_level)._replace(box=box, level=level)
+
+    own, kind = given(box, level), rng.randrange(10)
+    if kind < 4:
+        return own
+    if kind < 7:
+        at, off = rng.randrange(6), rng.choice((1, 1, 1, -1, -1, -1, 2**8, 2**16, 2**32, 2**63))
+        numbers = [own.length, *own.active, own.visited]
+        numbers[at] = (numbers[at] + off) % 2**64
+        return own._replace(length=numbers[0], active=tuple(numbers[1:5]), visited=numbers[5])
+    if kind == 7:
+        surface, visited = table.surface(), quadtree.levels_under(table.tree, box)[-1]
+        active = tuple(len(surface.active_functions(one)) for one in LEVELS)
+        return rng.choice((own._replace(length=len(table.tree)), own._replace(active=active),
+                           own._replace(visited=visited), Slip(box, level, len(table.tree), active, visited)))
+    return given(random_box(rng, table.w, table.h), rng.choice((1, 2, 3))) if kind == 8 else made_up
 
 
 # Points at knots, edges and between, far edges included.

@@ -68,6 +68,37 @@ static void slopes_of_s(void) {
   }
 }
 
+/* Document 02, "Enquire, then insert", on S and the level 1 box 0,0 to 4,4: the slip has the tree's 13 bytes, 25 active
+   functions of level 1 and 4 nodes. A refused call leaves what it was lent; a slip with one number changed is 19, which
+   comes before 16 and 17; a commit of the slip itself writes the bench sheet's tree and columns. */
+static void slip_of_s(void) {
+  size_t told = 7, active[4] = {7, 7, 7, 7}, seen = 7, left = 7;
+  HELD(kiln_enquire(0, 1, flat, 1, s, ONE, 0, 0, 4, 4, 1, &told, active, &seen) == KILN_SIDE);
+  HELD(kiln_enquire(1, 1, split, 5, s, ONE, 0, 0, 4, 4, 1, &told, active, &seen) == KILN_TREE);
+  HELD(kiln_enquire(1, 1, flat, 1, s, ONE - 1, 0, 0, 4, 4, 1, &told, active, &seen) == KILN_NUMBERS_LENGTH);
+  HELD(kiln_enquire(1, 1, flat, 1, s, ONE, 0, 0, 5, 4, 4, &told, active, &seen) == KILN_BOX);
+  HELD(kiln_enquire(1, 1, flat, 1, s, ONE, 0, 0, 4, 4, 4, &told, active, &seen) == KILN_LEVEL);
+  HELD(told == 7 && active[0] == 7 && active[1] == 7 && active[2] == 7 && active[3] == 7 && seen == 7);
+  HELD(kiln_enquire(1, 1, flat, 1, s, ONE, 0, 0, 4, 4, 1, &told, active, &seen) == KILN_DONE);
+  HELD(told == 13 && active[0] == 0 && active[1] == 25 && active[2] == 0 && active[3] == 0 && seen == 4);
+  memset(tree, 9, sizeof tree);
+  for (int k = 0; k < 6; k++) {
+    size_t wrong[6] = {told, active[0], active[1], active[2], active[3], seen};
+    wrong[k]++;
+    HELD(kiln_commit(1, 1, flat, 1, s, ONE, 0, 0, 4, 4, 1, wrong[0], wrong + 1, wrong[5], tree, k % 2 ? 12 : 13, fine,
+                     k % 3 ? 210 : ONE, &left) == KILN_SLIP);
+  }
+  HELD(kiln_commit(1, 1, flat, 1, s, ONE, 0, 0, 4, 4, 4, told, active, seen, tree, 13, fine, ONE, &left) == KILN_LEVEL);
+  HELD(kiln_commit(1, 1, flat, 1, s, ONE, 0, 0, 4, 5, 1, told, active, seen, tree, 13, fine, ONE, &left) == KILN_BOX);
+  HELD(kiln_commit(1, 1, flat, 1, s, ONE, 0, 0, 4, 4, 1, told, active, seen, tree, 12, fine, 210, &left) == 16);
+  HELD(kiln_commit(1, 1, flat, 1, s, ONE, 0, 0, 4, 4, 1, told, active, seen, tree, 12, fine, ONE, &left) == 17);
+  HELD(left == 7 && tree[0] == 9 && tree[12] == 9 && fine[16] == 0);
+  HELD(kiln_commit(1, 1, flat, 1, s, ONE, 0, 0, 4, 4, 1, told, active, seen, tree, 13, fine, ONE, &left) == KILN_DONE);
+  HELD(left == 13 && !memcmp(tree, level_1, 13) && tree[13] == 9);
+  HELD(fine[0] == 0 && fine[16] == -32000 && fine[40] == 96000 && fine[41] == 0);
+  memset(fine, 0, sizeof fine);
+}
+
 /* "S, level 1 box 0,0 to 4,4: tree 4 4 4 1 and nine 0; 25 active", "least level 1, 4 nodes"; greatest level 1, as all
    of the sheet has it. On 2 by 1 the western half has level 1, the greatest, and the eastern half 0, the least. */
 static void box_inserted(void) {
@@ -306,6 +337,7 @@ static void files_written(void) {
 int main(void) {
   sheet_s();
   slopes_of_s();
+  slip_of_s();
   box_inserted();
   east();
   coefficients_set();

@@ -42,16 +42,18 @@ def rust_parameter(text: str) -> List[Parameter]:
 
 
 def library_parameter(text: str) -> List[Parameter]:
-    """A slice is a pointer and a length after it, const unless it is lent for writing; `&mut` is a pointer."""
-    found = re.fullmatch(rf"(\w+): (?:({TYPE})|(&|&mut )\[({TYPE})\]|&mut ({TYPE}))", text)
+    """A slice is a pointer and a length after it, const unless it is lent for writing. Four numbers are a pointer
+    alone, as the header says; so is `&mut`."""
+    found = re.fullmatch(rf"(\w+): (?:({TYPE})|(&|&mut )\[({TYPE})(; 4)?\]|&mut ({TYPE}))", text)
     if not found:
         return [(text, "no type of the calls in the library")]
     name = RENAMED.get(found[1], found[1])
     if found[2]:
         return [(name, found[2])]
-    if found[4]:
-        return [(name, f"*{'const' if found[3] == '&' else 'mut'} {found[4]}"), (f"{name}_len", "usize")]
-    return [(name, f"*mut {found[5]}")]
+    if found[6]:
+        return [(name, f"*mut {found[6]}")]
+    pointer = (name, f"*{'const' if found[3] == '&' else 'mut'} {found[4]}")
+    return [pointer] if found[5] else [pointer, (f"{name}_len", "usize")]
 
 
 class Language(NamedTuple):
@@ -85,7 +87,12 @@ C = Language(
      (r"\bsize_t u,\s*size_t v\b", "size_t v, size_t u"),
      (r"\*note_offset,\s*size_t \*note_length\b", "*note_length, size_t *note_offset"),
      (r"\*least,\s*uint8_t \*greatest\b", "*greatest, uint8_t *least"),
-     (r"\*along_u,\s*double \*along_v\b", "*along_v, double *along_u")])
+     (r"\*along_u,\s*double \*along_v\b", "*along_v, double *along_u"),
+     (r"\*slip_length,\s*size_t \*slip_active\b", "*slip_active, size_t *slip_length"),
+     (r"\*slip_active,\s*size_t \*slip_visited\b", "*slip_visited, size_t *slip_active"),
+     (r"\bslip_length,\s*const size_t \*slip_active,\s*size_t slip_visited\b",
+      "slip_visited, const size_t *slip_active, size_t slip_length"),
+     (r"\*slip_active(?=,)", "*slip_active, size_t slip_active_len")])
 RUST = Language(
     re.compile(r"\bfn (?P<name>kiln_\w+)\((?P<takes>[^()]*)\) -> (?P<returns>\w+);"), re.compile(r"//[^\n]*"),
     rust_parameter, {},
@@ -94,16 +101,26 @@ RUST = Language(
      (r"\bw: usize, h: usize\b", "h: usize, w: usize"), (r"\bu: usize,\s*v: usize\b", "v: usize, u: usize"),
      (r"\bnote_offset: \*mut usize,\s*note_length\b", "note_length: *mut usize, note_offset"),
      (r"\bleast: \*mut u8,\s*greatest\b", "greatest: *mut u8, least"),
-     (r"\balong_u: \*mut f64,\s*along_v\b", "along_v: *mut f64, along_u")])
+     (r"\balong_u: \*mut f64,\s*along_v\b", "along_v: *mut f64, along_u"),
+     (r"\bslip_length: \*mut usize,\s*slip_active\b", "slip_active: *mut usize, slip_length"),
+     (r"\bslip_active: \*mut usize,\s*slip_visited\b", "slip_visited: *mut usize, slip_active"),
+     (r"\bslip_length: usize,\s*slip_active: \*const usize,\s*slip_visited\b",
+      "slip_visited: usize, slip_active: *const usize, slip_length"),
+     (r"(?<=slip_active: \*const usize)|(?<=slip_active: \*mut usize)", ", slip_active_len: usize")])
 LIBRARY = Language(
     re.compile(r'#\[no_mangle\]\s*pub extern "C" fn (?P<name>kiln_\w+)\((?P<takes>[^()]*)\) -> (?P<returns>\w+)'),
     re.compile(r"//[^\n]*"), library_parameter, {},
     [(r"\busize\b", "i64"), (r"\bi64\b", "usize"), (r"\bu8\b", "i8"), (r"\bf64\b", "i64"), (r"&mut ", "&"),
-     (r"&(?=\[)", "&mut "), (r"\[(?=\w+\])|(?<=\w)\]", ""), (r"\bw: usize,\s*h: usize\b", "h: usize, w: usize"),
+     (r"&(?=\[)", "&mut "), (r"\[(?=\w+\])|(?<=\w)\]", ""), (r"; 4", ""), (r"; 4", "; 5"),
+     (r"\bw: usize,\s*h: usize\b", "h: usize, w: usize"),
      (r"\bu: usize,\s*v: usize\b", "v: usize, u: usize"),
      (r"\bnote_offset: &mut usize,\s*note_length\b", "note_length: &mut usize, note_offset"),
      (r"\bleast: &mut u8,\s*greatest\b", "greatest: &mut u8, least"),
-     (r"\balong_u: &mut f64,\s*along_v\b", "along_v: &mut f64, along_u")])
+     (r"\balong_u: &mut f64,\s*along_v\b", "along_v: &mut f64, along_u"),
+     (r"\bslip_length: &mut usize,\s*slip_active: &mut \[usize; 4\],\s*slip_visited\b",
+      "slip_visited: &mut usize, slip_active: &mut [usize; 4], slip_length"),
+     (r"\bslip_length: usize,\s*slip_active: &\[usize; 4\],\s*slip_visited\b",
+      "slip_visited: usize, slip_active: &[usize; 4], slip_length")])
 
 
 def rust_source() -> Path:
@@ -130,13 +147,16 @@ def differences(library: Dict[str, Call], other: Dict[str, Call], whose: str) ->
 def changed_types(language: Language, bare: str, others: List[Dict[str, Call]]) -> Tuple[int, List[str]]:
     """How many changes were tried, each of one type in one declaration, and those that were not told of that call."""
     tried, unseen = 0, []
-    for declared in language.declaration.finditer(bare):
-        for old, new in language.changes:
+    for old, new in language.changes:
+        before = tried
+        for declared in language.declaration.finditer(bare):
             for place in re.compile(old).finditer(bare, declared.start(), declared.end()):
                 calls = language.calls(bare[: place.start()] + new + bare[place.end() :])
                 tried += 1
                 if any(list(differences(other, calls, "the copy")) != [declared["name"]] for other in others):
                     unseen.append(f"{declared['name']}: '{place[0]}' for '{new}' is not told")
+        if tried == before:
+            unseen.append(f"no call has '{old}', for '{new}'")
     return tried, unseen
 
 
@@ -147,9 +167,10 @@ def exported(archive: str) -> List[str]:
 
 
 def main(archive: str) -> int:
-    sources = [("include/kiln.h", C, ROOT / "include/kiln.h"), ("the Rust crate", RUST, rust_source()),
-               ("the library", LIBRARY, ROOT / "crates/kiln/src/lib.rt")]
-    bare = {whose: language.bare(path.read_text(encoding="utf-8")) for whose, language, path in sources}
+    sources = [("include/kiln.h", C, [ROOT / "include/kiln.h"]), ("the Rust crate", RUST, [rust_source()]),
+               ("the library", LIBRARY, sorted((ROOT / "crates/kiln/src").glob("*.rt")))]
+    bare = {whose: "\n".join(language.bare(path.read_text(encoding="utf-8")) for path in paths)
+            for whose, language, paths in sources}
     calls = {whose: language.calls(bare[whose]) for whose, language, _ in sources}
     library = calls["the library"]
     faults = [fault for whose in calls for fault in differences(library, calls[whose], whose).values()]

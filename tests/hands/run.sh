@@ -1,8 +1,9 @@
 #!/usr/bin/env bash
 # The library from C, C++ and Rust: what the archive needs and has; that C, Rust and the library agree on the types of
-# each call; every call on the bench sheet, plain and with a table in a struct; the levels under boxes and points; the
-# slopes and the arrow; the counts and the notes in files; the header's version and words; the examples, held to the
-# evaluator; the Rust crate's doc tests. All that is C is built by gcc and clang, as C99 and as C++11.
+# each call; every call on the bench sheet, plain and with a table in a struct; slips and their commits, and the
+# insertion of both; the levels under boxes and points; the slopes and the arrow; the counts and the notes in files; the
+# header's version and words; the examples, held to the evaluator; the Rust crate's doc tests. All that is C is built by
+# gcc and clang, as C99 and as C++11.
 #
 # Run as: tests/hands/run.sh
 set -euo pipefail
@@ -84,6 +85,7 @@ builds=("gcc -std=c99 -x c" "clang -std=c99 -x c" "g++ -std=c++11 -x c++" "clang
 points=()
 dots=()
 arrows=()
+slips=()
 for build in "${builds[@]}"; do
   read -ra c <<<"$build"
   into=$room/${c[0]}
@@ -97,6 +99,8 @@ for build in "${builds[@]}"; do
 
   calls=$("$into/calls") || { echo "${c[0]}: $calls"; exit 1; }
   structs=$("$into/structs") || { echo "${c[0]}: $structs"; exit 1; }
+  enquiries=$("$into/slips") || { echo "${c[0]}: $enquiries"; exit 1; }
+  two_calls=$("$into/two_calls") || { echo "${c[0]}: $two_calls"; exit 1; }
   levels=$("$into/levels") || { echo "${c[0]}: $levels"; exit 1; }
   slopes=$("$into/slopes") || { echo "${c[0]}: $slopes"; exit 1; }
   counts=$("$into/counts") || { echo "${c[0]}: $counts"; exit 1; }
@@ -124,12 +128,14 @@ for build in "${builds[@]}"; do
   points+=("$into/point")
   dots+=("$into/dot")
   arrows+=("$into/arrow")
+  slips+=("$into/slip")
 done
 point=$(python3 tests/hands/check_point.py "${points[@]}") || { echo "$point"; exit 1; }
 dot=$(python3 tests/hands/check_dot.py "${dots[@]}") || { echo "$dot"; exit 1; }
 arrow=$(python3 tests/hands/check_arrow.py "${arrows[@]}") || { echo "$arrow"; exit 1; }
+slip=$(python3 tests/hands/check_slip.py "${slips[@]}") || { echo "$slip"; exit 1; }
 
 tests/hands/rust.sh
 
-echo "hands: $types; with each of ${#builds[@]} compilers $calls; $structs; $levels; $slopes; $counts; $notes;" \
-  "$point; $dot; $arrow; examples as expected on ${#files[@]} files"
+echo "hands: $types; with each of ${#builds[@]} compilers $calls; $structs; $enquiries; $two_calls; $levels; $slopes;" \
+  "$counts; $notes; $point; $dot; $arrow; $slip; examples as expected on ${#files[@]} files"

@@ -34,13 +34,13 @@ def misused(program: str, needed: str, table: str, names: Sequence[str], room: P
     return made
 
 
-def in_rust(run: Run, needed: str) -> List[Run]:
-    """The same run of the Rust example that needs a table file, u and v: main shows a refusal, or what is needed, as an
+def in_rust(run: Run, needed: str, in_its_words: str = NEEDED_IN_RUST) -> List[Run]:
+    """The same run of the Rust example, which says in its words what is needed: main shows that, or a refusal, as an
     error, and ends with 1. None where an argument is no number or no file, which the standard library words."""
     if run.status == 0:
         return [run]
     if run.status == 255:
-        return [Run(run.arguments, "", NEEDED_IN_RUST, 1)] if run.errors == needed else []
+        return [Run(run.arguments, "", in_its_words, 1)] if run.errors == needed else []
     *lines, refusal = run.text.splitlines(keepends=True)
     return [Run(run.arguments, "".join(lines), f"Error: {refusal}", 1)]
 

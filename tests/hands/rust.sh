@@ -115,6 +115,7 @@ done
 around=$(python3 tests/hands/around.py "$examples/around") || fail "around differs"
 python3 tests/hands/check_dot.py --rust "$examples/dot" >"$room/dot" || fail "dot differs" "$room/dot"
 python3 tests/hands/check_arrow.py --rust "$examples/arrow" >"$room/arrow" || fail "arrow differs" "$room/arrow"
+python3 tests/hands/check_slip.py --rust "$examples/slip" >"$room/slip" || fail "slip differs" "$room/slip"
 
 # A copy of the crate with nothing beside it: no archive, no tables.
 apart=$room/apart
@@ -155,4 +156,4 @@ missing_is_told "after one with it"
 
 echo "hands: Rust crate: $tests tests and $doc_tests doc tests passed, $layout, $lints;" \
   "examples as expected on ${#files[@]} files; $around; $(cat "$room/dot"); $(cat "$room/arrow");" \
-  "archive found where KILN_LIB_DIR says"
+  "$(cat "$room/slip"); archive found where KILN_LIB_DIR says"

@@ -24,7 +24,7 @@ LINES = {
     "Misreadings and wrong programs": ("must-fail", "refused by"),
     "Wrong programs of document 02's requests": ("must-fail", "refused by"),
 }
-REFUSALS = [*range(1, 19), 20]
+REFUSALS = range(1, 21)
 
 
 def declares(text: str, name: str, kind: str) -> bool:
@@ -83,7 +83,7 @@ def incomplete(text: str) -> List[str]:
               for entry, lines in parts[part].items() for line in due if not ENTRY.search(lines.get(line, ""))]
     told = {int(entry.split(":")[0]) for entry in parts["Refusal numbers"]}
     faults += [f"refusal {number}: not in the map" for number in REFUSALS if number not in told]
-    linked = (ROOT / "crates/kiln/src/lib.rt").read_text(encoding="utf-8")
+    linked = "".join(one.read_text(encoding="utf-8") for one in sorted((ROOT / "crates/kiln/src").glob("*.rt")))
     promised = "".join(lines["promise"] for lines in parts["Calls"].values())
     return faults + [f"{name}: not among the calls" for name in re.findall(r"\bfn (kiln_\w+)", linked)
                      if f"#{name}`" not in promised]
