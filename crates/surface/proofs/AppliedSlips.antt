@@ -10,8 +10,8 @@ use Rattle.surface.specs.Sheet.{eighths}
 use Rattle.surface.specs.Quadtree.{bytes, parse, wellFormed, levelAt, regionTree, visits}
 use Rattle.surface.specs.Support.{leastUnder, activeInRow, activeCount}
 use Rattle.surface.specs.Table.{levels, start, coefficients, withinLimits, passiveZero, regionCause, tableCause}
-use Rattle.surface.specs.Calls.{Answer, refused, gives, newTree}
-use Rattle.surface.specs.Enquiry.{Slip, slipOf, enquiryOutcome, commitCause, commitOutcome}
+use Rattle.surface.specs.Calls.{Answer, refused, newTree}
+use Rattle.surface.specs.Enquiry.{Slip, slipOf, commitCause, commitOutcome}
 use Rattle.surface.proofs.Applied.{corner}
 
 -- the corner box at level 1, with these numbers told
@@ -32,28 +32,35 @@ told length a0 a1 a2 a3 visited =
 abbrev zeros : List ℤ
 zeros = replicate 211 (pos 0)
 
+zeros-acceptable : tableCause 1 1 (0 ∷ []) zeros ≡ 0
+unfolding tableCause regionCause withinLimits passiveZero every leastUnder least eighths levels levelAt parse wellFormed
+    start coefficients
+zeros-acceptable = refl
+
 -- The new tree is 4 4 4 1 and nine 0, all 25 functions of level 1 are active and none else, and four nodes are visited
 -- under the box. Of the tree that was read the numbers are 1; 16, 0, 0, 0; 1.
-pub slip-told : enquiryOutcome 1 1 (0 ∷ []) zeros corner 1 ≡ gives (told 13 0 25 0 0 4)
-unfolding enquiryOutcome slipOf newTree bytes regionTree activeCount activeInRow total count leastUnder least eighths
-    levels levelAt parse wellFormed visits tableCause regionCause withinLimits passiveZero every start coefficients
+pub slip-told : slipOf 1 1 (0 ∷ []) corner 1 ≡ told 13 0 25 0 0 4
+unfolding slipOf newTree bytes regionTree activeCount activeInRow total count leastUnder least eighths levels levelAt
+    parse visits
 slip-told = refl
 
--- what a commit of a slip to no outputs, or to outputs of these lengths, answers
-abbrev answered : Slip → ℕ → ℕ → Answer ℕ
-answered s bytes places = commitOutcome 1 1 (0 ∷ []) zeros s (replicate bytes 9) (replicate places (pos 9)) .result
+-- what a commit of a slip to no outputs, which 16 and 17 would refuse, answers
+abbrev answered : Slip → Answer ℕ
+answered s = commitOutcome 1 1 (0 ∷ []) zeros s [] [] .result
 
--- The slip is taken; each of its numbers off by one is 19, before 16 and 17, which come last.
-pub slip-judged : (answered (told 13 0 25 0 0 4) 13 211 ≡ gives 13)
-    × (answered (told 12 0 25 0 0 4) 0 0 ≡ refused 19)
-    × (answered (told 13 1 25 0 0 4) 0 0 ≡ refused 19)
-    × (answered (told 13 0 24 0 0 4) 0 0 ≡ refused 19)
-    × (answered (told 13 0 25 1 0 4) 0 0 ≡ refused 19)
-    × (answered (told 13 0 25 0 1 4) 0 0 ≡ refused 19)
-    × (answered (told 13 0 25 0 0 3) 0 0 ≡ refused 19)
-    × (answered (told 13 0 25 0 0 4) 0 0 ≡ refused 16)
-    × (answered (told 13 0 25 0 0 4) 12 211 ≡ refused 17)
-unfolding commitOutcome commitCause slipOf newTree bytes regionTree activeCount activeInRow total count leastUnder least
-    eighths levels levelAt parse wellFormed visits tableCause regionCause withinLimits passiveZero every start
-    coefficients
-slip-judged = (refl, refl, refl, refl, refl, refl, refl, refl, refl)
+-- Each number of the slip off by one is 19, before 16 and 17.
+pub slip-judged : (answered (told 12 0 25 0 0 4) ≡ refused 19)
+    × (answered (told 13 1 25 0 0 4) ≡ refused 19)
+    × (answered (told 13 0 24 0 0 4) ≡ refused 19)
+    × (answered (told 13 0 25 1 0 4) ≡ refused 19)
+    × (answered (told 13 0 25 0 1 4) ≡ refused 19)
+    × (answered (told 13 0 25 0 0 3) ≡ refused 19)
+unfolding commitOutcome commitCause
+slip-judged = (
+  rw (zeros-acceptable, slip-told),
+  rw (zeros-acceptable, slip-told),
+  rw (zeros-acceptable, slip-told),
+  rw (zeros-acceptable, slip-told),
+  rw (zeros-acceptable, slip-told),
+  rw (zeros-acceptable, slip-told),
+)
