@@ -57,10 +57,10 @@ pub slip-judged : (answered (told 12 0 25 0 0 4) ≡ refused 19)
     × (answered (told 13 0 25 0 0 3) ≡ refused 19)
 unfolding commitOutcome commitCause
 slip-judged = (
-  rw (zeros-acceptable, slip-told),
-  rw (zeros-acceptable, slip-told),
-  rw (zeros-acceptable, slip-told),
-  rw (zeros-acceptable, slip-told),
-  rw (zeros-acceptable, slip-told),
-  rw (zeros-acceptable, slip-told),
+  simp (zeros-acceptable, slip-told),
+  simp (zeros-acceptable, slip-told),
+  simp (zeros-acceptable, slip-told),
+  simp (zeros-acceptable, slip-told),
+  simp (zeros-acceptable, slip-told),
+  simp (zeros-acceptable, slip-told),
 )
