@@ -25,7 +25,7 @@ exact-told W H c u v code old n p =
     told (readingCause W H (c .tree) (c .numbers) u v) (tableReading W H (c .tree) (c .numbers) u v) old n code p
 
 -- where the code is 0 the outcome gives the value beside it
-exact-given : (W H : ℕ) (c : Contents) (u v code : ℕ) (old n : ℤ) → KilnExactPromise W H c u v code old n
+pub exact-given : (W H : ℕ) (c : Contents) (u v code : ℕ) (old n : ℤ) → KilnExactPromise W H c u v code old n
     → code ≡ 0 → exactOutcome W H (c .tree) (c .numbers) u v ≡ gives n
 exact-given W H c u v code old n p z = sym (exact-told W H c u v code old n p) ∙ ap (λ m. answer m n) z
 
@@ -37,12 +37,12 @@ commit-told W H c k code old n p =
     (length (newTree (c .tree) (k .slip .box) (k .slip .level))) old n code p
 
 -- one call leaves the table that its outcome does
-abbrev lentTo : LinkedMade → Step
-lentTo (kilnEnquire m) = enquiry (m .lent)
-lentTo (kilnCommit m) = commit (m .lent)
+abbrev pub lentByLinked : LinkedMade → Step
+lentByLinked (kilnEnquire m) = enquiry (m .lent)
+lentByLinked (kilnCommit m) = commit (m .lent)
 
 pub linked-left-step : (W H : ℕ) (c : Contents) (m : LinkedMade) → LinkedAsPromised W H c m
-    → leftByLinked c m ≡ afterStep W H c (lentTo m)
+    → leftByLinked c m ≡ afterStep W H c (lentByLinked m)
 linked-left-step W H c (kilnEnquire m) p = refl
 linked-left-step W H c (kilnCommit m) p =
     ap (λ r. left c r (m .tree) (m .numbers))
@@ -85,7 +85,8 @@ stays-coded W H c u v code₀ code n₀ n s =
 
 lists : LinkedListsMoveNothing
 lists W H c ms acc k =
-    let all = list-moves-nothing W H (LinkedAsPromised W H) leftByLinked lentTo (linked-left-step W H) c ms acc k in (
+    let all = list-moves-nothing W H (LinkedAsPromised W H) leftByLinked lentByLinked (linked-left-step W H) c ms acc k
+    in (
       all .0,
       λ u v code₀ code old₀ n₀ old n p q.
           stays-coded W H c u v code₀ code n₀ n

@@ -48,7 +48,7 @@ list-moves-nothing W H keeps leaves lent one c ms acc k =
     )
 
 -- one call leaves the table that its outcome does
-abbrev lentTo : Made → Step
+abbrev pub lentTo : Made → Step
 lentTo (enquire m) = steps.enquiry (m .lent)
 lentTo (commit m) = steps.commit (m .lent)
 

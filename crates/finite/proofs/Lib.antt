@@ -10,6 +10,7 @@ pub mod Table
 pub mod Joined
 pub mod Tests
 pub mod Weighted
+pub mod Systems
 pub mod Signed
 pub mod Minima
 pub mod Maxima

@@ -24,3 +24,14 @@ pub le-least : (top n m : ℕ) (f : ℕ → ℕ) → m ≤ top → ((k : ℕ) �
 unfolding least
 le-least top zero m f t h = t
 le-least top (suc n) m f t h = le-min (le-least top n m f t (λ k l. h k (le-step l))) (h n (lt-suc-self n))
+
+-- a least number below the top is that of one of the n
+pub least-attained : (top n : ℕ) (f : ℕ → ℕ) (m : ℕ) → least top n f ≡ m → m < top → (k : ℕ) × (k < n) × (f k ≡ m)
+unfolding least
+least-attained top zero f m e h = absurd (omega arith)
+least-attained top (suc n) f m e h = go (least-attained top n f m) (decLt (f n) (least top n f))
+  where
+    go : (least top n f ≡ m → m < top → (k : ℕ) × (k < n) × (f k ≡ m)) → Dec (f n < least top n f)
+        → (k : ℕ) × (k < suc n) × (f k ≡ m)
+    go ih (yes l) = (n, lt-suc-self n, omega arith)
+    go ih (no l) = let (k, hk, p) = ih (omega arith) h in (k, le-step hk, p)

@@ -111,6 +111,12 @@ module _ {A : Type 0} where
   pub grid-cong : (n m : ℕ) (f g : ℕ → ℕ → A) → ((a b : ℕ) → a < n → b < m → f a b ≡ g a b) → grid n m f ≡ grid n m g
   grid-cong n m f g h = rows-cong 0 n m f g (λ a b la lb. rw (zero-add b) (h a b la lb))
 
+  -- functions with one grid agree on it
+  pub grid-same : (n m : ℕ) (f g : ℕ → ℕ → A) → grid n m f ≡ grid n m g → (a b : ℕ) → a < n → b < m → f a b ≡ g a b
+  grid-same n m f g e a b ha hb =
+      let d = f a b in
+      sym (getD-grid n m f a b d ha hb) ∙ ap (λ l. getD l (b * n + a) d) e ∙ getD-grid n m g a b d ha hb
+
   -- a grid of one value is that value over and over
   pub grid-const : (n m : ℕ) (x : A) → grid n m (λ a b. x) ≡ replicate (m * n) x
   grid-const n m x =

@@ -28,7 +28,7 @@ use Rattle.table.proofs.CauseLaws.{box-none}
 use Rattle.regions.specs.Regions.{bytesOf, Inserted}
 use Rattle.regions.proofs.RegionLaws.{region-cong}
 use Rattle.carry.specs.Carried.{CarriedFit}
-use Rattle.passive.proofs.SliceLaws.{slice-cong}
+use Rattle.surface.proofs.Slices.{slice-cong}
 use Rattle.refinement.specs.Refined.{overRows, refinedOutcome}
 
 -- past the causes of what is read the box lies in the sheet

@@ -1,6 +1,6 @@
 -- A slice that is written row after row: lists that agree at their first places, and the rows of a slice.
 use mathlib.Core.Path.{_≡_, refl, sym, ap, ap₂, _∙_, subst}
-use mathlib.Core.List.{List, [], _++_, append-assoc}
+use mathlib.Core.List.{List, _++_, append-assoc}
 use Prim.Native.Nat.{ℕ, _+_, _-_, _*_, _≤_, _<_}
 use native.Mathlib.Nat.{zero-add, mul-comm}
 use native.Mathlib.Numerals.{add-one}
@@ -8,10 +8,10 @@ use native.Mathlib.Omega.{arith}
 use lib.IntN.{ℤ, pos}
 use lib.ListN.{length, getD, take, drop, length-append}
 use lib.Seq.{length-take-le, getD-take, drop-drop, take-add, take-all, take-at, drop-at, ext-getD}
-use Rattle.finite.specs.Range.{tableFrom, grid}
-use Rattle.finite.proofs.Table.{length-table, getD-table, table-cong, place-split, grid-cong}
+use Rattle.finite.specs.Range.{tableFrom}
+use Rattle.finite.proofs.Table.{length-table, getD-table, table-cong, place-split}
 use Rattle.surface.specs.Sheet.{functions}
-use Rattle.surface.specs.Table.{places, start, slots, coefficients, sliceFrom, sliceOf}
+use Rattle.surface.specs.Table.{places, start, slots, coefficients, sliceOf}
 use Rattle.surface.proofs.TableLaws.{start-step, start-before, slice-length, slice-coefficient}
 use Rattle.activity.specs.declared.Marks.{Marks}
 use Rattle.activity.specs.Marks.{marked}
@@ -139,15 +139,3 @@ first-level W H n f s few size same =
         rw there
         (same (q .0) (q .1) (q .2) (q .3)
         ∙ sym (slice-coefficient W H f 0 (q .0) (q .1) (omega arith) (q .2) (q .3)))
-
--- everywhere
-pub slice-cong : (W H : ℕ) (f g : ℕ → ℕ → ℕ → ℤ)
-    → ((L a b : ℕ) → L < 4 → a < functions W L → b < functions H L → f L a b ≡ g L a b)
-    → sliceOf W H f ≡ sliceOf W H g
-unfolding sliceFrom
-slice-cong W H f g h =
-    let level : (L : ℕ) → L < 4
-    → grid (functions W L) (functions H L) (f L) ≡ grid (functions W L) (functions H L) (g L) =
-    λ L l. grid-cong (functions W L) (functions H L) (f L) (g L) (λ a b. h L a b l) in
-    ap₂ _++_ (level 0 (omega arith)) (ap₂ _++_ (level 1 (omega arith)) (ap₂ _++_ (level 2 (omega arith))
-    (ap (λ l. l ++ []) (level 3 (omega arith)))))

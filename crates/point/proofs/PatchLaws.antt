@@ -5,14 +5,12 @@ use mathlib.Core.List.{List}
 use Prim.Native.Nat.{ℕ, zero, suc, _+_, _-_, _*_, _%_, _^_, _≤_, _<_, min}
 use native.Mathlib.Nat.{le-refl, le-trans, mul-le-mul-left, pow-le-pow-right}
 use native.Mathlib.Omega.{arith}
-use borrow.Author.Tests.{le-leb}
 use lib.Dec.{leb}
 use lib.IntN.{ℤ, pos, _*ℤ_}
 use lib.ListN.{length, getD}
 use Rattle.finite.specs.Range.{sum2}
 use Rattle.finite.proofs.Bits.{bit-small}
 use Rattle.finite.proofs.Sum.{sum2-cong}
-use Rattle.finite.proofs.Tests.{and-intro}
 use Rattle.surface.specs.Sheet.{steps, quarterOf, onSheet}
 use Rattle.surface.specs.Spline.{cellOf, piece}
 use Rattle.surface.specs.Support.{leastUnder, inRegion}
@@ -22,6 +20,7 @@ use Rattle.surface.specs.Table.{levels, coefficients, limit, slots, Acceptable,
 use Rattle.surface.proofs.PatchReading.{subdivided-cong}
 use Rattle.surface.proofs.TableLaws.{sound, sides}
 use Rattle.surface.proofs.Greatest.{stop-level}
+use Rattle.surface.proofs.Around.{sheet-has}
 use Rattle.surface.proofs.Demands.{patch-evaluates, any-level}
 use Rattle.surface.proofs.Derivatives.{patch-slopes}
 use Rattle.rows.specs.Rows.{levelsOf, Nested}
@@ -111,8 +110,7 @@ module _ (W H : ℕ) (rows : List ℕ) (cs : List ℤ) (u v : ℕ) (given : Read
       (λ L a b. rows-least W H t rows L a b (n .1) (n .3) (given .2 .1))
 
   on-sheet : onSheet W H u v ≡ true
-  on-sheet = and-intro (leb u (128 * W)) (leb v (128 * H)) (le-leb u (128 * W) (given .0))
-      (le-leb v (128 * H) (given .1))
+  on-sheet = sheet-has W H u v (given .0) (given .1)
 
   -- what `coarsest` asks
   pub point-ready : (0 < W) × (W ≤ 8) × (0 < H) × (H ≤ 8) × (u ≤ 128 * W) × (v ≤ 128 * H) × (length cs ≡ slots W H)

@@ -23,6 +23,7 @@ use Rattle.surface.specs.TableFile.{sidesField, treeField, countsAgree, 
 use Rattle.surface.specs.TableFile.{fileContents, FileResult, fileOutcome, levelBody, countsBody, fileWith}
 use Rattle.surface.specs.BenchLoading.{benchOutcome}
 use Rattle.surface.specs.Saving.{saveCause, saveOutcome}
+use Rattle.surface.specs.Grid.{gridReading}
 
 -- ---- the far edge
 
@@ -204,6 +205,15 @@ unfolding benchOutcome fileOutcome fileContents sidesField treeField countsField
     allWithin wellFormed parse levels levelAt fileWith levelBody joined coefficients start activeCount activeInRow
     activeBefore total count every leastUnder least eighths tableFrom
 note-told = (refl, refl, refl, refl, refl, refl, refl)
+
+-- ---- grids
+
+-- 2 by 1, one number, the first of the second row of nineteen: its splines are 1/6 at u = 0, and 23/48 half way into
+-- the first cell of level 3 along v.
+pub grid-read : gridReading 2 1 (replicate 19 (pos 0) ++ (pos 1 ∷ replicate 189 (pos 0))) 0 8
+    ≡ pos (16 ^ 3 * (23 * 8 ^ 3))
+unfolding gridReading sum splineAt cellOf piece eighths
+grid-read = refl
 
 -- ---- saving
 

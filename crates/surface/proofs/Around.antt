@@ -10,7 +10,7 @@ use lib.IntN.{ℤ, pos, negℤ, natAbs, _*ℤ_}
 use lib.Dec.{leb, lit≤}
 use lib.Pow.{pow-add}
 use lib.Signed.{_≤ℤ_}
-use borrow.Author.Tests.{leb-true, eq-eqb}
+use borrow.Author.Tests.{leb-true, le-leb, eq-eqb}
 use Rattle.finite.proofs.Int.{*ℤ-assoc}
 use Rattle.finite.proofs.Order.{scale-mono, le-abs, le-parts, zarith}
 use Rattle.finite.proofs.Extremum.{Lowest, Highest, Nowhere, least3, greatest3}
@@ -30,6 +30,10 @@ pub on-sheet : (W H u v : ℕ) → onSheet W H u v ≡ true → (u ≤ 128 * W) 
 on-sheet W H u v e =
     let e2 = both (leb u (128 * W)) (leb v (128 * H)) e in
     (leb-true u (128 * W) (e2 .0), leb-true v (128 * H) (e2 .1))
+
+pub sheet-has : (W H u v : ℕ) → u ≤ 128 * W → v ≤ 128 * H → onSheet W H u v ≡ true
+sheet-has W H u v hu hv =
+    and-intro (leb u (128 * W)) (leb v (128 * H)) (le-leb u (128 * W) hu) (le-leb v (128 * H) hv)
 
 -- ---- readings lie between coefficients around the point
 

@@ -177,7 +177,7 @@ linear-readings W H t₁ t₂ t₃ c₁ c₂ c₃ a b acc₁ acc₂ acc₃ same�
 -- ---- insertions
 
 -- two acceptable tables with one reading have one outcome
-same-outcome : (W H : ℕ) (s t : List ℕ) (c d : List ℤ) → Acceptable W H s c → Acceptable W H t d → (u v : ℕ)
+pub same-outcome : (W H : ℕ) (s t : List ℕ) (c d : List ℤ) → Acceptable W H s c → Acceptable W H t d → (u v : ℕ)
     → tableReading W H s c u v ≡ tableReading W H t d u v → exactOutcome W H s c u v ≡ exactOutcome W H t d u v
 unfolding exactOutcome readingCause
 same-outcome W H s t c d p q u v e = rw (p, q, e)

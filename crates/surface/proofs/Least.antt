@@ -1,13 +1,13 @@
 -- The least level under a support: bounds, and that it rises from a function to its children and with the regions.
-use mathlib.Core.Path.{_≡_, sym, ap, _∙_, subst}
-use mathlib.Core.Bool.{Bool, true, _&&_, cond}
+use mathlib.Core.Path.{_≡_, refl, sym, ap, _∙_, subst}
+use mathlib.Core.Bool.{Bool, true, false, _&&_, cond}
 use Prim.Native.Nat.{ℕ, suc, _+_, _-_, _*_, _≤_, _<_, min}
 use native.Mathlib.Nat.{le-trans, le-of-eq, le-antisymm}
 use native.Mathlib.Nat.{mul-le-mul-right, mul-assoc, mul-comm, add-mul}
 use native.Mathlib.Omega.{arith}
 use lib.Dec.{eqb}
 use Rattle.finite.specs.Range.{least}
-use Rattle.finite.proofs.Minima.{least-le-top, least-le, le-least}
+use Rattle.finite.proofs.Minima.{least-le-top, least-le, le-least, least-attained}
 use Rattle.finite.proofs.Tests.{both, and-intro, lts-true, lts-intro, pick, total-cong, count-cong}
 use Rattle.surface.specs.Sheet.{eighths, steps, functions, quarters}
 use Rattle.surface.specs.Support.{lowEnd, highEnd, shares, holdsAlong, leastWhere, leastUnder}
@@ -31,6 +31,20 @@ module _ (W H : ℕ) where
       le-least 3 (quarters W) m (λ q. least 3 (quarters H) (λ r. cond (p q r) (lev q r) 3)) t
       λ q hq. le-least 3 (quarters H) m (λ r. cond (p q r) (lev q r) 3) t
       λ r hr. pick (p q r) (λ b. m ≤ cond b (lev q r) 3) (h q r hq hr) (λ _. t)
+
+  -- a least level below 3 is that of a square
+  pub leastWhere-attained : (lev : ℕ → ℕ → ℕ) (p : ℕ → ℕ → Bool) (m : ℕ) → leastWhere W H lev p ≡ m → m < 3
+      → (q : ℕ) × (r : ℕ) × (p q r ≡ true) × (lev q r ≡ m)
+  leastWhere-attained lev p m e l =
+      let column : ℕ → ℕ → ℕ = λ q r. cond (p q r) (lev q r) 3 in
+      let (q, _, eq) = least-attained 3 (quarters W) (λ q. least 3 (quarters H) (column q)) m e l in
+      let (r, _, er) = least-attained 3 (quarters H) (column q) m eq l in
+      let (t, f) = square (p q r) (lev q r) er in
+      (q, r, t, f)
+    where
+      square : (t : Bool) (k : ℕ) → cond t k 3 ≡ m → (t ≡ true) × (k ≡ m)
+      square true k h = (refl, h)
+      square false k h = absurd (omega arith)
 
   pub leastUnder-le-3 : (lev : ℕ → ℕ → ℕ) (L a b : ℕ) → leastUnder W H lev L a b ≤ 3
   unfolding leastUnder

@@ -25,6 +25,7 @@ pub mod Bounds
 pub mod SupportLaws
 pub mod Selection
 pub mod TableLaws
+pub mod Slices
 pub mod OneTree
 pub mod Insertion
 pub mod Around

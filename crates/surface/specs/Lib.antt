@@ -15,6 +15,7 @@ pub mod Note
 pub mod TableFile
 pub mod BenchLoading
 pub mod Saving
+pub mod Grid
 pub mod Demands
 pub mod Costs
 pub mod Derivatives

@@ -4,20 +4,19 @@ use mathlib.Core.Path.{_≡_, refl, sym, ap, ap₂, _∙_, subst}
 use mathlib.Core.Bool.{Bool, true, false, cond}
 use mathlib.Core.List.{List, [], _∷_, _++_, append-nil, append-assoc}
 use Prim.Native.Nat.{ℕ, zero, suc, _+_, _*_, _≤_, _<_}
-use native.Mathlib.Nat.{mul-comm, zero-add}
+use native.Mathlib.Nat.{zero-add}
 use native.Mathlib.Omega.{arith}
-use lib.IntN.{ℤ, pos}
-use lib.ListN.{length, getD, take, drop, length-append, length-drop, take-append-drop, drop-of-length-le}
+use lib.IntN.{ℤ}
+use lib.ListN.{length, getD, take, drop, length-append}
 use lib.Dec.{eqb}
-use lib.Seq.{length-take-le, getD-drop, getD-take, take-at, drop-at, drop-drop, ext-getD}
+use lib.Seq.{take-at, drop-at}
 use Rattle.finite.specs.Range.{total, grid, joined}
-use Rattle.finite.proofs.Table.{length-grid, getD-grid, place-split}
 use Rattle.finite.proofs.Joined.{joined-length}
 use Rattle.finite.proofs.Tests.{and-intro}
 use Rattle.surface.specs.Sheet.{goodSide, functions}
 use Rattle.surface.specs.Quadtree.{Quadtree, bytes, wellFormed}
 use Rattle.surface.specs.Support.{activeCount}
-use Rattle.surface.specs.Table.{treeOf, formed, levels, start, slots, coefficients, sliceFrom, sliceOf, limit}
+use Rattle.surface.specs.Table.{treeOf, formed, levels, coefficients, sliceFrom, limit}
 use Rattle.surface.specs.Fields.{contains, holds, lengthAt, numberAt, allWithin, Bytes, fieldBytes}
 use Rattle.surface.specs.Note.{Note, noteBytes, noteFits}
 use Rattle.surface.specs.TableFile.{sidesIn, goodSides, sidesField, treeField, countsAgree, countsField, levelLoaded}
@@ -25,7 +24,8 @@ use Rattle.surface.specs.TableFile.{levelField, levelFields, Loaded, fileConten
 use Rattle.surface.proofs.TreeForm.{AtLeaves, AtSplits, form-induction}
 use Rattle.surface.proofs.TreeBytes.{tree-length}
 use Rattle.surface.proofs.OneTree.{slice-bytes}
-use Rattle.surface.proofs.TableLaws.{Formed, tree-formed, start-step, start-le, slice-more, Sound, sides, sound}
+use Rattle.surface.proofs.Slices.{own-numbers}
+use Rattle.surface.proofs.TableLaws.{Formed, tree-formed, slice-more, Sound, sides, sound}
 use Rattle.fields.proofs.FieldLaws.{bodyOf, restOf, body-length, body-bytes, rest-bytes, field-written}
 use Rattle.fields.proofs.FiveBytes.{numbers-determine}
 use Rattle.fields.proofs.Written.{nil-bytes, cons-bytes, append-bytes, joined-bytes, field-bytes, checked-read}
@@ -39,44 +39,6 @@ use Rattle.tablefile.proofs.FileLaws.{after, levelsIn, Accepted, accept
 use Rattle.tablefile.proofs.FileLaws.{loaded-coefficient, accepted-sound}
 use Rattle.tablefile.proofs.SavedLevels.{level-length, level-bytes, level-number, level-loads, level-within}
 use Rattle.tablefile.proofs.SavedLevels.{level-small, savedBody}
-
--- ---- a slice is that of its own coefficients
-
-own-part : (n m s : ℕ) (cs : List ℤ) (d : ℤ) → s + m * n ≤ length cs
-    → grid n m (λ a b. getD cs (s + (b * n + a)) d) ≡ take (m * n) (drop s cs)
-own-part n m s cs d h =
-    ext-getD d (grid n m f) (take (m * n) (drop s cs)) (length-grid n m f ∙ sym size)
-    λ i l.
-    let inside : i < m * n = rw (length-grid n m f) at l in
-    let p = place-split n m i inside in
-    ap (λ k. getD (grid n m f) k d) (p .4)
-    ∙ getD-grid n m f (p .0) (p .1) d (p .2) (p .3)
-    ∙ ap (λ k. getD cs (s + k) d) (sym (p .4))
-    ∙ sym (getD-take (m * n) (drop s cs) i d inside ∙ getD-drop s cs i d)
-  where
-    f : ℕ → ℕ → ℤ
-    f a b = getD cs (s + (b * n + a)) d
-
-    size : length (take (m * n) (drop s cs)) ≡ m * n
-    size = length-take-le (m * n) (drop s cs) (omega (arith, length-drop s cs))
-
-own-slice : (W H : ℕ) (cs : List ℤ) → length cs ≡ slots W H → (n L : ℕ) → n + L ≡ 4
-    → sliceFrom W H (coefficients W H cs) L n ≡ drop (start W H L) cs
-unfolding sliceFrom coefficients
-own-slice W H cs size zero L e =
-    let end : start W H L ≡ length cs = ap (λ k. start W H k) (omega arith) ∙ sym size in
-    sym (drop-of-length-le cs {i = start W H L} (omega arith))
-own-slice W H cs size (suc n) L e =
-    let places = functions H L * functions W L in
-    let next : start W H (suc L) ≡ start W H L + places =
-    start-step W H L ∙ ap (λ k. start W H L + k) (mul-comm (functions W L) (functions H L)) in
-    ap₂ _++_
-    (own-part (functions W L) (functions H L) (start W H L) cs (pos 0)
-    (omega (arith, start-le W H (suc L) 4 (omega arith))))
-    (own-slice W H cs size n (suc L) (omega arith)
-    ∙ ap (λ k. drop k cs) next
-    ∙ sym (drop-drop places (start W H L) cs))
-    ∙ take-append-drop places (drop (start W H L) cs)
 
 -- ---- the tree's bytes
 
@@ -140,10 +102,6 @@ module _ (W H : ℕ) (t : List ℕ) (cs : List ℤ) (ok : Sound W H t cs) where
       (level-loads W H t cs ok L h ∙ ap (λ M. grid (functions W M) (functions H M) (f M)) (sym (zero-add L)))
       ∙ ap (λ l. holds l rest) (sym (slice-more W H f L 0)))
 
-  own-numbers : sliceOf W H (coefficients W H cs) ≡ cs
-  unfolding start
-  own-numbers = own-slice W H cs (ok .size) 4 0 refl
-
   -- the counts are read back; where none stand, the levels are due
   counts-read : (counts : Bool) (rest : List ℕ)
       → countsField (activeCount W H (levels t)) (countsPart counts W H t ++ (joined 4 written ++ rest))
@@ -177,7 +135,7 @@ module _ (W H : ℕ) (t : List ℕ) (cs : List ℤ) (ok : Sound W H t cs) where
             (tree-formed W H t (ok .tree)),
         counts-read counts last,
         levels-read 4 (omega arith) last,
-        own-numbers,
+        own-numbers W H cs (ok .size),
         note-read note fits,
       )
 

@@ -10,7 +10,7 @@ use Rattle.surface.specs.Table.{coefficients}
 use Rattle.surface.proofs.TableLaws.{slice-length, slice-coefficient}
 use Rattle.rows.specs.Rows.{levelsOf}
 use Rattle.passive.specs.Cleared.{cleared}
-use Rattle.passive.proofs.SliceLaws.{slice-cong}
+use Rattle.surface.proofs.Slices.{slice-cong}
 use Rattle.refinement.specs.Refined.{overRows}
 use Rattle.refinement.proofs.carry_over.Statement.{statement}
 use Rattle.refinement.proofs.carry_over.Tie as tie

@@ -1,0 +1,11 @@
+pub mod Points
+pub mod CellPoints
+pub mod QuarterPoints
+pub mod Inverses
+pub mod UnderCell
+pub mod ReverseSubdivision
+pub mod Shown
+pub mod OneSurface
+pub mod Carried
+pub mod OfCalls
+pub mod Pairs

@@ -1,0 +1,3 @@
+pub mod OneSurface
+pub mod OfCalls
+pub mod Pairs
