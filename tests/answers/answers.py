@@ -1,5 +1,6 @@
 """Calls whose answers are kept from revision to revision: each call on each table, those of files on acceptable ones,
-and readings at many points. An enquiry and a commit are kept as the insertion that they are together."""
+and readings at many points. An enquiry and a commit are kept by themselves, and as the insertion that they are
+together."""
 from __future__ import annotations
 
 from hashlib import sha256
@@ -7,15 +8,19 @@ from itertools import chain
 from typing import Iterator, List, Tuple, Union
 
 from answered_tables import Table, accepted, points, refused
-from surface import LEVELS, QUARTERS_PER_CELL, place_count
+from surface import LEVELS, QUARTERS_PER_CELL, Box, place_count
 import tablefile
 import tree as quadtree
-from edges import lent, room
+from edges import fresh_table, lent, room
+from enquiries import Slip
 from library import Answer, Float, Inserted, Known, Lent, Library, Scalar, numbers, octets
+from slip_cases import changed
 
 TARIFF, TARIFFS = 12_345, (0, 499, 500, 1_499, 1_500, 99_999, 100_000)
 PRICED_AT = (5, 7)
 NOTE = bytes(range(64))
+# What slips tell beside box and level, by the place of each number.
+NUMBERS = ("length", *(f"active {level}" for level in LEVELS), "visited")
 
 
 def digest(data: bytes) -> str:
@@ -65,6 +70,46 @@ def outputs(t: Table, *lengths: int) -> Tuple[Lent, Lent]:
     return octets(tree_out), numbers(numbers_out)
 
 
+def slip_from(lib: Library, t: Table, box: Box, level: int) -> Slip:
+    """The slip that an enquiry gives, with no numbers where it gives none."""
+    got = lib.enquire(*lent(t), box, level)
+    return Slip(box, level, *((0, (0,) * 4, 0) if got.cause else got.said()[1:]))
+
+
+def other_slips(lib: Library, t: Table, own: Slip) -> Iterator[Tuple[str, Slip]]:
+    """Slips with other numbers than the table's own, or made for another box, level or table, which may be its own."""
+    for at, name in enumerate(NUMBERS):
+        yield f"{name} more", changed(own, at, lambda number: number + 1)
+    yield "no numbers", Slip(*own[:2], 0, (0,) * 4, 0)
+    yield "of the whole sheet", slip_from(lib, t, boxes(t)[0], own.level)._replace(box=own.box)
+    yield "of level 3", slip_from(lib, t, own.box, 3)._replace(level=own.level)
+    yield "of a fresh table", slip_from(lib, fresh_table(t.w, t.h), *own[:2])
+    yield "past the sheet", own._replace(box=boxes(t)[-1])
+    yield "past the sheet, level 0", own._replace(box=boxes(t)[-1], level=0)
+    yield from ((f"level {level}", own._replace(level=level)) for level in (0, 4))
+
+
+def about_slips(lib: Library, t: Table) -> Iterator[Tuple[str, Answer]]:
+    """Enquiries, and commits of other slips than the table's own; of its own and another to outputs of other lengths;
+    and of its own once more, to the table that its commit left."""
+    held = lent(t)
+    for box in boxes(t):
+        for level in (*LEVELS, 4):
+            yield f"enquire {box} {level}", lib.enquire(*held, box, level)
+    own = slip_from(lib, t, boxes(t)[2], 2)
+    for words, slip in other_slips(lib, t, own):
+        yield f"commit {words}", lib.commit(*held, slip, *outputs(t))
+    short = {"no tree": (0,), "a number more": (quadtree.GREATEST_TREE, 1), "no tree, a number less": (0, -1)}
+    for words, lengths in short.items():
+        for name, slip in (("own", own), ("length more", changed(own, 0, lambda number: number + 1))):
+            yield f"commit {name} to {words}", lib.commit(*held, slip, *outputs(t, *lengths))
+    tree_out, numbers_out = outputs(t)
+    left = lib.commit(*held, own, tree_out, numbers_out)
+    if not left.cause:
+        tree = octets(tree_out.values()[:left.said()[1]])
+        yield "commit own again", lib.commit(t.w, t.h, tree, numbers(numbers_out.values()), own, *outputs(t))
+
+
 def about_files(lib: Library, t: Table) -> Iterator[Tuple[str, Answer]]:
     """Saving with a note, without, with one too long and to an output that is too short; loading the table's file by
     both loaders, with and without counts and note, damaged, and to outputs of other lengths."""
@@ -110,7 +155,7 @@ def answers_about(lib: Library, name: str, t: Table, good: bool) -> Iterator[str
     """A line for each answer about one table; files and points only of one that is acceptable."""
     held = lent(t)
     yield f"{name}: {t.w} by {t.h}, tree {digest(held[2].given)}, coefficients {digest(held[3].given)}"
-    for words, got in chain(about(lib, t), about_files(lib, t) if good else ()):
+    for words, got in chain(about(lib, t), about_slips(lib, t), about_files(lib, t) if good else ()):
         yield f"{name}, {words}: {inserted(got) if isinstance(got, Inserted) else said(got)}"
     for u, v in points(t) if good else [PRICED_AT]:
         read = *(call(*held, u, v) for call in (lib.exact, lib.watts, lib.display)), lib.cost(*held, u, v, TARIFF)

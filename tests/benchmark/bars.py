@@ -1,6 +1,6 @@
 """The bars of the benchmark: the greatest that figures may be, and the figures that each bar is compared with.
 
-`docs/DECISIONS.md` says where each number comes from.
+`docs/DECISIONS-BARS.md` says where each number comes from.
 """
 from __future__ import annotations
 

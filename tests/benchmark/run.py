@@ -58,8 +58,8 @@ def bar_table(figures: Figures) -> List[str]:
              "anew, compares each figure that a bar speaks of, on every table, and fails where one is above its bar. "
              "Before that it tries itself on made-up figures just past each bar, and sees that the bars below are "
              "those of `bars.py`. Times are compared with nothing, since they do not repeat as counts do; the "
-             f"greatest ratio of times is {slowest:.2f}. `docs/DECISIONS.md` says where each bar comes "
-             "from.")
+             f"greatest ratio of times is {slowest:.2f}. `docs/DECISIONS-BARS.md` says where each bar "
+             "comes from.")
     return ["", "## Bars", "", fill(words, 116, break_on_hyphens=False), "", "| what | bar | greatest figure |",
             "|---|---|---|",
             *(f"| {bar.what} | {bars.shown(bar.greatest)} | {bars.shown(max(bar.of(figures).values()))} |"

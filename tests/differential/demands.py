@@ -1,4 +1,5 @@
-"""Demand 3 of the compiled library's readings: linear in the coefficients, and between those around the point.
+"""Demand 3 of the compiled library's readings: linear in the coefficients, and between those around the point. And
+document 02, Ten: they tell the coefficients.
 
 That no list of enquiries and commits moves a reading is in insertions.py.
 """
@@ -12,6 +13,7 @@ from cases import calls, samples
 from library import Library, differ, numbers, octets
 from saving import drawn
 from surface import D
+from uniqueness import Columns, cells_that_show, coefficient_told, points_in
 
 
 def exact(lib: Library, t: samples.Table, values: List[int], point: samples.Point) -> Tuple[str, int]:
@@ -46,4 +48,17 @@ def bracketed(rng: Random, lib: Library) -> Iterator[str]:
         yield fault or ("" if inside else f"at {point} {reading} over D lies beyond {least} to {greatest}")
 
 
-KINDS: Dict[str, Callable[[Random, Library], Iterator[str]]] = {"linear": linear, "bracketed": bracketed}
+def told(rng: Random, lib: Library) -> Iterator[str]:
+    """"two acceptable tables with one sheet and one tree, whose exact readings agree ... have the same coefficients":
+    of four functions, each by the sixteen points of a cell that shows it."""
+    t = drawn(lib, cases.table(rng))
+    surface = calls.surface_of(t.w, t.h, t.tree)
+    for function in rng.sample(Columns(surface).functions, 4):
+        cell = rng.choice(cells_that_show(surface, function))
+        faults, read = zip(*(exact(lib, t, t.coefficients, point) for point in points_in(cell)))
+        due, given = t.coefficients[surface.place(*function)], coefficient_told(function, cell, read)
+        yield max(faults) or ("" if given == due else f"{function} of {t.tree}: {due}, but {given} by cell {cell}")
+
+
+KINDS: Dict[str, Callable[[Random, Library], Iterator[str]]] = {
+    "linear": linear, "bracketed": bracketed, "told": told}

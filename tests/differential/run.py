@@ -25,6 +25,7 @@ import demands
 import files
 import fixed
 import insertions
+import same_regions
 import saving
 import tables
 from library import ROOT, Inside, Library, Seen, shared
@@ -41,7 +42,10 @@ FIXED, LIMIT_SECONDS = -1, 600
 Begun = Callable[[int], None]
 
 KINDS: Dict[str, Callable[[Random, Library], Iterator[str]]] = {
-    **tables.KINDS, **costs.KINDS, **insertions.KINDS, **files.KINDS, **saving.KINDS, **demands.KINDS}
+    **tables.KINDS, **costs.KINDS, **insertions.KINDS, **same_regions.KINDS, **files.KINDS, **saving.KINDS,
+    **demands.KINDS}
+# Kinds that hold readings to each other, to a range or to the coefficients, or tables to each other, do not count.
+UNCOUNTED = {*same_regions.KINDS, *demands.KINDS}
 
 
 def one_case(lib: Library, number: int, seed: int) -> Iterator[str]:
@@ -54,7 +58,7 @@ def one_case(lib: Library, number: int, seed: int) -> Iterator[str]:
 
 def one_sided(counts: Dict[str, List[int]]) -> List[str]:
     """A line for each kind of call that was never made, accepted or refused, so that the run shows little of it.
-    Demand 3 is about readings of acceptable tables, and what is saved again is acceptable: none of it is refused."""
+    What demands.py has is of readings of acceptable tables, and what is saved again is acceptable: none is refused."""
     made, acceptable = {kind.split(",")[0] for kind in counts}, (*demands.KINDS, saving.AGAIN)
     return [f"{kind}: never made" for kind in (*KINDS, saving.AGAIN) if kind not in made] + [
         f"{kind}: never {word}" for kind, given in counts.items()
@@ -70,8 +74,7 @@ def generated(lib: Library, words: str, command: str, asked: Namespace, begun: B
             break
         begun(k)
         for fault in one_case(lib, k, asked.seed):
-            # A trial of demand 3 holds readings to each other or to a range, so that it does not count.
-            made += lib.kind not in demands.KINDS
+            made += lib.kind not in UNCOUNTED
             if fault:
                 faults += 1
                 print(f"case {k} of seed {asked.seed}: {fault[:2000]}\nalone: {alone(command, asked, k)}", flush=True)

@@ -15,6 +15,7 @@ import calls
 import cost_cases
 import enquiries
 import file_cases
+import full_grids
 import level_cases
 import note_cases
 import note_misreadings
@@ -31,6 +32,9 @@ import slope_properties
 import stopping
 import tablefile
 import tree as quadtree
+import uniqueness_cases
+import uniqueness_misreadings
+import uniqueness_properties
 from samples import Table, bench_s, columns_table, fresh_table, inserted
 from surface import D, LEVELS, PUBLISHED, Rules, Surface, carried_watts, place_count, place_of, total_places
 
@@ -260,27 +264,6 @@ def saving(check: Check) -> None:
     check(unnoted == (longest, longest + 11), "no file without a note is longer")
 
 
-# Document 01, Bench sheet: what the corner program prints.
-def corners(check: Check) -> None:
-    lines = ["u v watts", "0 0 0", "1 0 1000", "0 1 0", "1 1 1000"]
-    wide_lines = ["u v watts", "0 0 -3", "1 0 -3", "2 0 -3", "0 1 -3", "1 1 -3", "2 1 -3"]
-    fine = inserted(inserted(bench_s(), (0, 0, 4, 4), 1), (1, 1, 4, 3), 3)
-    for counted in (False, True):
-        file, refined, wide = (
-            tablefile.write_file(*table, counted=counted) for table in (bench_s(), fine, fresh_table(2, 1, -3))
-        )
-        check(calls.corner_lines(file) == lines, "corner program on S")
-        check(calls.corner_lines(refined) == lines, "corner program on S refined")
-        check(calls.corner_lines(wide) == wide_lines, "corner program on 2 by 1")
-        for note in (b"", b"note", bytes(64)):
-            noted = tablefile.write_file(*fine, counted=counted, note=note)
-            check(calls.corner_lines(noted) == lines, "corner program on S refined, with a note of %d" % len(note))
-        check(calls.corner_lines(file + b"\0" * 9) == ["refused 15"], "corner program, 15")
-    other = tablefile.write_file(*bench_s()).replace(bytes.fromhex("030008 0010"), bytes.fromhex("030008 0011"))
-    check(calls.corner_lines(other) == ["refused 20"], "corner program on a count of 17")
-    check(calls.corner_lines(b"") == ["refused 12"], "corner program on an empty file")
-
-
 # Document 01, Misreadings: each bench case that shows a misreading, besides the properties.
 def bench_misreadings(check: Check) -> None:
     fine = quadtree.level_map(LEVEL_1_TREE, 1, 1)
@@ -314,7 +297,7 @@ def bench_misreadings(check: Check) -> None:
 GROUPS = [
     ("bench sheet, starred", starred),
     ("bench sheet, the rest", unstarred),
-    ("corner program", corners),
+    ("corner program", file_cases.corners),
     ("refusals", refusals),
     ("levels under a box", level_cases.greatest_levels),
     ("costs", cost_cases.costs),
@@ -324,6 +307,7 @@ GROUPS = [
     ("bounds of watts and slopes", slope_cases.bounds),
     ("slips and enquiries", slip_cases.slips),
     ("commits", slip_cases.commits),
+    ("pairs of tables that read alike", uniqueness_cases.pairs),
     ("table files", file_cases.files),
     ("counts in a file", file_cases.counts),
     ("counts and other causes", file_cases.counts_in_order),
@@ -351,6 +335,11 @@ GROUPS = [
     ("what a slip tells and a commit leaves", slip_properties.told_and_left),
     ("an enquiry and its commit as an insertion", slip_properties.as_insertion),
     ("whose slip it is", slip_properties.whose),
+    ("coefficients told by rank", uniqueness_properties.ranks),
+    ("cells that show a function", uniqueness_properties.shown),
+    ("coefficients after lists, told by readings before", uniqueness_properties.carried),
+    ("lists that end with the same regions", uniqueness_properties.lists),
+    ("full grids", full_grids.grids),
     ("saving and loading", properties.saving),
     ("saving what was loaded", properties.saving_again),
     ("files of one table", saved_files.files_of_a_table),
@@ -364,6 +353,8 @@ GROUPS = [
     ("misreadings of the cost", cost_cases.cost_misreadings),
     ("misreadings of the slopes", slope_misreadings.slope_misreadings),
     ("misreadings of slips, enquiries and commits", slip_misreadings.slip_misreadings),
+    ("misreadings of what readings tell", uniqueness_misreadings.told_misread),
+    ("functions that are refined away", uniqueness_misreadings.refined_away),
     ("misreadings of saving", saved_files.saving_misreadings),
     ("misreadings of a note that is read", note_misreadings.loading_misreadings),
     ("misreadings of a note that is saved", note_misreadings.writing_misreadings),

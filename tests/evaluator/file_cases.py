@@ -1,4 +1,5 @@
-"""Table files read by the evaluator: whole ones with their counts and without, and each damage with its number."""
+"""Table files read by the evaluator: whole ones with their counts and without, each damage with its number, and what
+the corner program prints of them."""
 from __future__ import annotations
 
 from itertools import permutations
@@ -9,7 +10,7 @@ import calls
 import samples
 import tablefile
 import tree as quadtree
-from samples import Table
+from samples import Table, bench_s, fresh_table, inserted
 from surface import place_count, total_places
 from tablefile import coefficient_bytes, field
 
@@ -174,3 +175,24 @@ def counts_in_order(check: Check) -> None:
     loaded = calls.read_file(front + field(3, bytes.fromhex(counts)) + rest, [9], [7] * total_places(1, 1))
     check(loaded.answer == ("ok", 1, 1, 1), "the file of S with counts")
     check(loaded.lent["coefficients_out"] == table.coefficients, "what the file of S with counts loads")
+
+
+# Document 01, Bench sheet: what the corner program prints.
+def corners(check: Check) -> None:
+    lines = ["u v watts", "0 0 0", "1 0 1000", "0 1 0", "1 1 1000"]
+    wide_lines = ["u v watts", "0 0 -3", "1 0 -3", "2 0 -3", "0 1 -3", "1 1 -3", "2 1 -3"]
+    fine = inserted(inserted(bench_s(), (0, 0, 4, 4), 1), (1, 1, 4, 3), 3)
+    for counted in (False, True):
+        file, refined, wide = (
+            tablefile.write_file(*table, counted=counted) for table in (bench_s(), fine, fresh_table(2, 1, -3))
+        )
+        check(calls.corner_lines(file) == lines, "corner program on S")
+        check(calls.corner_lines(refined) == lines, "corner program on S refined")
+        check(calls.corner_lines(wide) == wide_lines, "corner program on 2 by 1")
+        for note in (b"", b"note", bytes(64)):
+            noted = tablefile.write_file(*fine, counted=counted, note=note)
+            check(calls.corner_lines(noted) == lines, "corner program on S refined, with a note of %d" % len(note))
+        check(calls.corner_lines(file + b"\0" * 9) == ["refused 15"], "corner program, 15")
+    other = tablefile.write_file(*bench_s()).replace(bytes.fromhex("030008 0010"), bytes.fromhex("030008 0011"))
+    check(calls.corner_lines(other) == ["refused 20"], "corner program on a count of 17")
+    check(calls.corner_lines(b"") == ["refused 12"], "corner program on an empty file")
