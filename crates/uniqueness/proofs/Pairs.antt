@@ -1,5 +1,5 @@
--- The pairs of tables that agree in one respect and differ: acceptable and carried by computing, their readings by the
--- theorems.
+-- The pairs of tables that agree and have other coefficients: acceptable and carried by computing, their readings by
+-- the theorems.
 use mathlib.Core.Path.{_≡_, refl, sym, ap, ap₂, _∙_}
 use mathlib.Core.Bool.{true}
 use mathlib.Core.List.{List, [], _∷_}

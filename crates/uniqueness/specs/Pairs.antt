@@ -1,5 +1,5 @@
--- Why one tree, exact readings and so many points are asked for: three pairs of tables of the sheet 1 by 1, each of
--- which agrees in that respect alone and differs. Proved in proofs/Pairs.antt.
+-- Why one tree, exact readings and so many points are asked for: three pairs of tables of the sheet 1 by 1, each
+-- without one of these. They agree, and have other coefficients. Proved in proofs/Pairs.antt.
 use mathlib.Core.Path.{_≡_}
 use mathlib.Core.Bool.{true}
 use mathlib.Core.List.{List, [], _∷_, _++_}
