@@ -8,18 +8,21 @@ use lib.Ieee.{Float}
 use mir.Syntax.{w64}
 use mir.Val.{SFits, toZ, ofZ}
 use mir.ValLaws.{toZ-ofZ}
-use Rattle.surface.specs.Calls.{Answer, refused, gives, answer, LevelsUnder}
+use Rattle.surface.specs.Calls.{Answer, refused, gives, answer, LevelsUnder, Done, SliceMeets}
 use Rattle.surface.specs.Enquiry.{Slip}
 use Rattle.surface.specs.FloatReading.{FloatMeets}
 use Rattle.surface.specs.Slopes.{ExactSlopes, FloatSlopes, SlopesMeet}
 use Rattle.surface.specs.Note.{NotePart}
-use Rattle.surface.specs.TableFile.{FileResult}
-use Rattle.answers.specs.Answers.{lengthAnswer, noteTold}
+use Rattle.surface.specs.TableFile.{Sides, FileResult}
+use Rattle.surface.specs.Grid.{ReadGrid}
+use Rattle.answers.specs.Answers.{lengthAnswer, noteTold, sheetAnswer}
 use Rattle.answers.specs.declared.Note.{Note}
+use Rattle.answers.specs.declared.Sheet as sheet
+use Rattle.answers.specs.declared.Sheet.{Sheet}
 use Rattle.answers.specs.declared.Length.{Length}
 use Rattle.answers.specs.declared.Length.the-variants.{Bytes, Refused}
 use Rattle.answers.specs.Codes.{codeOf, NumberTold, LeastTold, activeOf, SlipTold, WattsAfter, SlopesAfter}
-use Rattle.answers.specs.Codes.{FileTold, NoteAfter}
+use Rattle.answers.specs.Codes.{orGiven, FileTold, NoteAfter, SheetWritten}
 
 pub told-levels : {o : Answer LevelsUnder} (l g v a b c : ℕ)
     → gives (record { least = l; greatest = g; visited = v }) ≡ o → LeastTold o 0 a l b g c v
@@ -116,3 +119,30 @@ pub told : {A : Type 0} (k : ℕ) (a old new : A) (code : ℕ) → NumberTold (a
     → answer code new ≡ answer k a
 told zero a old new code p = ap₂ answer (p .0) (p .1)
 told (suc k) a old new code p = ap (λ m. answer m new) (p .0)
+
+-- ---- a grid converted over a tree
+
+-- what holds of an outcome by which table there is goes over to what follows from it
+read-grid : {file t : List ℕ} {out : List ℤ} {P Q : Done Sides ℤ → Type 0} → ((o : Done Sides ℤ) → P o → Q o)
+    → ReadGrid file t out P → ReadGrid file t out Q
+read-grid f r = record { converted = r .converted; right = r .right; outcome = f _ (r .outcome) }
+
+abbrev SheetTold : Answer Sides → ℕ → ℕ → ℕ → ℕ → ℕ → Type 0
+SheetTold z code w₀ w h₀ h =
+    (code ≡ codeOf z) × (w ≡ orGiven (λ s. s .W) z w₀) × (h ≡ orGiven (λ s. s .H) z h₀)
+
+pub sheet-given : {file t : List ℕ} {out after : List ℤ} {r : Sheet} (w h a b : ℕ) → r ≡ sheet.the-variants.Sides w h
+    → ReadGrid file t out (λ o. SliceMeets o (sheetAnswer r) after)
+    → ReadGrid file t out (λ o. SheetWritten o 0 a w b h after)
+sheet-given w h a b e =
+    read-grid λ o p.
+    let t = subst (λ z. SheetTold z 0 a w b h) (ap sheetAnswer (sym e) ∙ p .0) (refl, refl, refl) in
+    (t .0, t .1, t .2, p .1)
+
+pub sheet-refused : {file t : List ℕ} {out after : List ℤ} {r : Sheet} (n a b : ℕ) → r ≡ sheet.the-variants.Refused n
+    → ReadGrid file t out (λ o. SliceMeets o (sheetAnswer r) after)
+    → ReadGrid file t out (λ o. SheetWritten o n a a b b after)
+sheet-refused n a b e =
+    read-grid λ o p.
+    let t = subst (λ z. SheetTold z n a a b b) (ap sheetAnswer (sym e) ∙ p .0) (refl, refl, refl) in
+    (t .0, t .1, t .2, p .1)

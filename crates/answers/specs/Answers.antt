@@ -5,7 +5,7 @@ use lib.Ieee.{Float}
 use Rattle.surface.specs.Calls.{Answer, refused, gives, LevelsUnder}
 use Rattle.surface.specs.Enquiry as enquiry
 use Rattle.surface.specs.Slopes.{FloatSlopes}
-use Rattle.surface.specs.TableFile.{FileResult}
+use Rattle.surface.specs.TableFile.{Sides, FileResult}
 use Rattle.surface.specs.Note.{NotePart}
 use Rattle.answers.specs.declared.Outcome as OutcomeCases
 use Rattle.answers.specs.declared.Outcome.{Outcome}
@@ -30,6 +30,8 @@ use Rattle.answers.specs.declared.Cost.{Cost}
 use Rattle.answers.specs.declared.File as FileCases
 use Rattle.answers.specs.declared.File.{File}
 use Rattle.answers.specs.declared.Note.{Note}
+use Rattle.answers.specs.declared.Sheet as SheetCases
+use Rattle.answers.specs.declared.Sheet.{Sheet}
 
 abbrev pub outcomeAnswer : Outcome → Answer (Unit {0})
 outcomeAnswer OutcomeCases.the-variants.Done = gives tt
@@ -90,3 +92,7 @@ fileAnswer (FileCases.the-variants.Refused n) = refused n
 
 abbrev pub noteTold : Note → NotePart
 noteTold n = record { stands = n .stands; offset = n .offset; size = n .length }
+
+abbrev pub sheetAnswer : Sheet → Answer Sides
+sheetAnswer (SheetCases.the-variants.Sides w h) = gives (record { W = w; H = h })
+sheetAnswer (SheetCases.the-variants.Refused n) = refused n

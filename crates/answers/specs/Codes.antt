@@ -13,7 +13,7 @@ use Rattle.surface.specs.Enquiry.{Slip}
 use Rattle.surface.specs.FloatReading.{Near}
 use Rattle.surface.specs.Slopes.{ExactSlopes, FloatSlopes, NearSlopes}
 use Rattle.surface.specs.Note.{NotePart}
-use Rattle.surface.specs.TableFile.{FileResult}
+use Rattle.surface.specs.TableFile.{Sides, FileResult}
 
 -- the refusal number, 0 where the call gives its result
 abbrev pub codeOf : {A : Type 0} → Answer A → ℕ
@@ -131,3 +131,11 @@ NoteAfter o p noted₀ noted offset₀ offset size₀ size =
     (noted ≡ orGiven (λ a. cond (p .stands) 1 0) o noted₀)
     × (offset ≡ orGiven (λ a. p .offset) o offset₀)
     × (size ≡ orGiven (λ a. p .size) o size₀)
+
+-- what a grid's conversion leaves: its code, W and H at its two parameters, and the slice
+abbrev pub SheetWritten : Done Sides ℤ → ℕ → ℕ → ℕ → ℕ → ℕ → List ℤ → Type 0
+SheetWritten o code w₀ w h₀ h after =
+    (code ≡ codeOf (o .result))
+    × (w ≡ orGiven (λ s. s .W) (o .result) w₀)
+    × (h ≡ orGiven (λ s. s .H) (o .result) h₀)
+    × (after ≡ o .after)

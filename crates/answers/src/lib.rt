@@ -99,3 +99,9 @@ pub struct Bench {
     pub file: File,
     pub note: Note,
 }
+
+// A grid converted over a tree gives the sides of its sheet.
+pub enum Sheet {
+    Sides { w: usize, h: usize },
+    Refused(u8),
+}

@@ -2,7 +2,7 @@
 use mathlib.Core.Path.{_≡_, refl, sym, ap, _∙_, subst}
 use mathlib.Core.Bool.{cond}
 use mathlib.Core.List.{List}
-use Prim.Native.Nat.{ℕ, suc, _+_, _*_, _/_, _%_, _^_, _≤_, _<_}
+use Prim.Native.Nat.{ℕ, suc, _+_, _-_, _*_, _/_, _%_, _^_, _≤_, _<_}
 use native.Mathlib.Nat.{zero-add, mul-one, mul-comm, mul-le-mul-left, mul-le-mul-right, pow-le-pow-right, le-trans}
 use native.Mathlib.Numerals.{add-one}
 use native.Mathlib.Omega.{arith}
@@ -10,7 +10,7 @@ use lib.IntN.{ℤ, pos, _*ℤ_}
 use lib.ListN.{length, getD, take}
 use Rattle.finite.specs.Range.{sum2}
 use Rattle.finite.proofs.Sum.{sum-cong, sum2-cong}
-use Rattle.finite.proofs.Table.{place-split}
+use Rattle.finite.proofs.Table.{place-split, length-table, getD-table}
 use Rattle.surface.specs.Sheet.{eighths, functions}
 use Rattle.surface.specs.Support.{inRegion}
 use Rattle.surface.specs.Truncation.{weight2}
@@ -25,8 +25,8 @@ use Rattle.activity.specs.declared.Marks.{Marks}
 use Rattle.activity.proofs.WindowLaws.{functions-le}
 use Rattle.coefficients.proofs.Parts.{part, part-length, level-at}
 use Rattle.carry.specs.Carried.{CarriedFit, CarriedTo, carriedSlice, Within, childFrom, columnChild}
-use Rattle.carry.specs.Carried.{AlongV, carriedIf, rowCarried}
-use Rattle.carry.proofs.ChildLaws.{child-cong, two-scale}
+use Rattle.carry.specs.Carried.{AlongV, carriedIf, rowCarried, NextRow}
+use Rattle.carry.proofs.ChildLaws.{child-cong, two-scale, two-scale-from}
 use Rattle.passive.proofs.RowLaws.{Rule}
 use Rattle.passive.proofs.SliceLaws.{front-at, first-level, put, row-front}
 
@@ -50,6 +50,26 @@ limit-coarse : (L : ℕ) → L < 3 → limit L ≤ 131072000
 limit-coarse L h =
     let power : 64 ^ L ≤ 4096 = pow-le-pow-right {n = 64} (omega arith) {i = L} {j = 2} (omega arith) in
     omega (arith, mul-le-mul-left 32000 power)
+
+-- a row of the next level, whatever the numbers of the level before it are
+pub next-row : (W H L b first e : ℕ) (rows : List ℕ) (marks : Marks) (coarse own sums row : List ℤ)
+    → e ≡ eighths (L + 1) → b < functions H (L + 1) → first ≤ b / 2
+    → RegionRow W H (L + 1) b (L + 1) (levelsOf rows) marks
+    → AlongV (functions W L) (functions W L) (b - 2 * first) coarse sums → length own ≡ functions W (L + 1)
+    → row ≡ rowCarried (marked e marks) sums own → NextRow W H rows L b first coarse own row
+next-row W H L b first e rows marks coarse own sums row side below low found along size new = (
+  ap length new ∙ length-table 0 (length own) _ ∙ size,
+  λ f stands a ha.
+      let test : marked e marks a ≡ inRegion W H (levelsOf rows) (L + 1) a b =
+      ap (λ e. marked e marks a) side ∙ found a ha in
+      let sum = two-scale-from W H L a b first f coarse sums (subst (λ k. a < functions W k) (add-one L) ha)
+      (subst (λ k. b < functions H k) (add-one L) below) low stands (along .sums) in
+      ap (λ r. getD r a (pos 0)) new
+      ∙ getD-table 0 (length own) (λ a. carriedIf (marked e marks a) (getD own a (pos 0)) sums a) a (pos 0)
+      (omega (arith, size))
+      ∙ ap (λ a. carriedIf (marked e marks a) (getD own a (pos 0)) sums a) (zero-add a)
+      ∙ (λ i. cond (test i) (getD own a (pos 0)) (sum i)),
+)
 
 module _ (W H : ℕ) (rows : List ℕ) (cs : List ℤ) where
   abbrev value : ℕ → ℕ → ℕ → ℤ

@@ -1,8 +1,8 @@
 -- The two-scale sum as the code takes it: a child along v in each column, then one along u.
 use mathlib.Core.Path.{_≡_, refl, sym, ap, ap₂, _∙_}
 use mathlib.Core.List.{List}
-use Prim.Native.Nat.{ℕ, zero, suc, _+_, _*_, _/_, _%_, _≤_, _<_}
-use native.Mathlib.Nat.{add-mul, mul-le-mul-right}
+use Prim.Native.Nat.{ℕ, zero, suc, _+_, _-_, _*_, _/_, _%_, _≤_, _<_}
+use native.Mathlib.Nat.{add-mul, mul-one, mul-le-mul-right}
 use native.Mathlib.Omega.{arith}
 use lib.IntN.{ℤ, pos, _*ℤ_}
 use lib.ListN.{length, getD, set, length-set, replicate, getD-replicate}
@@ -16,7 +16,7 @@ use Rattle.surface.specs.Patch.{stencil}
 use Rattle.surface.proofs.Parents.{parents, parents2}
 use Rattle.patch.specs.Steps.{Small, midway, evenOf, oddOf}
 use Rattle.patch.proofs.Subdivision.{even-child, odd-child, even-size, odd-size}
-use Rattle.carry.specs.Carried.{Within, childOf, childFrom, columnChild, AlongV}
+use Rattle.carry.specs.Carried.{Within, childOf, childFrom, columnChild, AlongV, RowsOf}
 
 -- ---- a child by the parity of its index
 
@@ -68,6 +68,20 @@ child-odd s at step c three e v =
       λ w. rw v (odd-size (getD s at (pos 0)) (getD s (at + step) (pos 0)) (getD s (at + step + step) (pos 0))
           (w at (omega arith)) (w (at + step) (omega arith)) (w (at + step + step) three)),
     )
+
+-- a child of the same parity, of parents that are the same where it has a weight
+pub child-same : (b i : ℕ) (f g : ℕ → ℤ) → i % 2 ≡ b % 2 → ((j : ℕ) → j < i % 2 + 2 → f j ≡ g j)
+    → childOf i f ≡ childOf b g
+child-same b i f g same e = go (native.Mathlib.Decide.ℕ-discrete (i % 2) 0)
+  where
+    go : Dec (i % 2 ≡ 0) → childOf i f ≡ childOf b g
+    go (yes h) =
+        sym (stencil-even i f h) ∙ ap₂ evenOf (e 0 (omega arith)) (e 1 (omega arith))
+        ∙ stencil-even b g (sym same ∙ h)
+    go (no h) =
+        let two : 2 < i % 2 + 2 = omega (arith, odd-rest i h) in
+        sym (stencil-odd i f h) ∙ (λ k. oddOf (e 0 (omega arith) k) (e 1 (omega arith) k) (e 2 two k))
+        ∙ stencil-odd b g (λ z. h (same ∙ z))
 
 -- ---- along v, column after column
 
@@ -125,3 +139,23 @@ two-scale W H L a b s ha hb =
     nested 3 3 (λ i. pos (stencil a i)) (λ j. pos (stencil b j))
     (λ i j. getD s ((b / 2 + j) * functions W L + (a / 2 + i)) (pos 0))
     ∙ sym (parents2 W H L a b ha hb (λ c d. getD s (d * functions W L + c) (pos 0)))
+
+-- the same of numbers that stand in a slice from a row on
+pub two-scale-from : (W H L a b first : ℕ) (f : ℕ → ℕ → ℤ) (s sums : List ℤ) → a < functions W (suc L)
+    → b < functions H (suc L) → first ≤ b / 2 → RowsOf (functions W L) (b / 2 - first + b % 2 + 2) first f s
+    → ((c : ℕ) → c < functions W L → getD sums c (pos 0) ≡ columnChild s (functions W L) (b - 2 * first) c)
+    → childFrom sums (a / 2) 1 a ≡ sum2 (functions W L) (functions H L) (λ c d. weight2 c d a b *ℤ f c d)
+two-scale-from W H L a b first f s sums ha hb low stands along =
+    sum-cong 3 (λ i. pos (stencil a i) *ℤ getD sums (a / 2 + i * 1) (pos 0))
+    (λ i. pos (stencil a i) *ℤ getD sums (a / 2 + i) (pos 0))
+    (λ i l. ap (λ k. pos (stencil a i) *ℤ getD sums (a / 2 + k) (pos 0)) (mul-one i))
+    ∙ child-cong W L a (λ i. getD sums i (pos 0)) (λ c. childOf b (λ j. f c (b / 2 + j))) ha
+    (λ c hc. along c hc ∙ child-same b (b - 2 * first) _ _ (omega arith) (λ j hj. in-row c j hc hj))
+    ∙ nested 3 3 (λ i. pos (stencil a i)) (λ j. pos (stencil b j)) (λ i j. f (a / 2 + i) (b / 2 + j))
+    ∙ sym (parents2 W H L a b ha hb f)
+  where
+    in-row : (c j : ℕ) → c < functions W L → j < (b - 2 * first) % 2 + 2
+        → getD s (((b - 2 * first) / 2 + j) * functions W L + c) (pos 0) ≡ f c (b / 2 + j)
+    in-row c j hc hj =
+        let row : first + ((b - 2 * first) / 2 + j) ≡ b / 2 + j = omega arith in
+        stands c ((b - 2 * first) / 2 + j) hc (omega arith) ∙ ap (f c) row

@@ -2,11 +2,13 @@
 use mathlib.Core.Path.{_≡_}
 use mathlib.Core.Bool.{Bool, cond}
 use mathlib.Core.List.{List}
-use Prim.Native.Nat.{ℕ, _+_, _*_, _/_, _≤_, _<_}
+use Prim.Native.Nat.{ℕ, _+_, _-_, _*_, _/_, _%_, _≤_, _<_}
 use lib.IntN.{ℤ, pos, natAbs, _*ℤ_}
 use lib.ListN.{length, getD, take}
-use Rattle.finite.specs.Range.{sum, tableFrom}
+use Rattle.finite.specs.Range.{sum, sum2, tableFrom}
 use Rattle.surface.specs.Sheet.{functions}
+use Rattle.surface.specs.Support.{inRegion}
+use Rattle.surface.specs.Truncation.{weight2}
 use Rattle.surface.specs.Table.{slots, coefficients, sliceOf, limit}
 use Rattle.surface.specs.Carry.{carried}
 use Rattle.surface.specs.Patch.{stencil}
@@ -57,3 +59,26 @@ carriedIf t own sums a = cond t own (childFrom sums (a / 2) 1 a)
 -- a row with its own coefficients
 abbrev pub rowCarried : (ℕ → Bool) → List ℤ → List ℤ → List ℤ
 rowCarried p sums own = tableFrom 0 (length own) (λ a. carriedIf (p a) (getD own a (pos 0)) sums a)
+
+-- ---- a row from the level before it
+
+-- rows of n numbers, m of them: those of f from row `first` on
+abbrev pub RowsOf : ℕ → ℕ → ℕ → (ℕ → ℕ → ℤ) → List ℤ → Type 0
+RowsOf n m first f s = (a j : ℕ) → a < n → j < m → getD s (j * n + a) (pos 0) ≡ f a (first + j)
+
+-- function (a, b) of the level after L: its own number where its cut support lies in the region of its level, else the
+-- two-scale sum of the numbers f of level L
+abbrev pub nextNumber : ℕ → ℕ → (ℕ → ℕ → ℕ) → ℕ → (ℕ → ℕ → ℤ) → ℤ → ℕ → ℕ → ℤ
+nextNumber W H lev L f own a b =
+    cond
+    (inRegion W H lev (L + 1) a b)
+    own
+    (sum2 (functions W L) (functions H L) (λ c d. weight2 c d a b *ℤ f c d))
+
+-- row b of the level after L, where the numbers f of level L stand in a slice from row `first` on
+abbrev pub NextRow : ℕ → ℕ → List ℕ → ℕ → ℕ → ℕ → List ℤ → List ℤ → List ℤ → Type 0
+NextRow W H rows L b first coarse own row =
+    (length row ≡ functions W (L + 1))
+    × ((f : ℕ → ℕ → ℤ) → RowsOf (functions W L) (b / 2 - first + b % 2 + 2) first f coarse
+    → (a : ℕ) → a < functions W (L + 1)
+    → getD row a (pos 0) ≡ nextNumber W H (levelsOf rows) L f (getD own a (pos 0)) a b)

@@ -2,16 +2,17 @@
 // lies in the region of its level, else the two-scale sum of its parents' carried values, first along v and then
 // along u.
 ghost use mathlib.Core.Path.{_≡_};
-ghost use Prim.Native.Nat.{_+_, _*_, _/_, _%_, _≤_, _<_};
+ghost use Prim.Native.Nat.{_+_, _-_, _*_, _/_, _%_, _≤_, _<_};
 ghost use lib.Dec.{leb};
 ghost use lib.IntN.{pos};
 ghost use lib.ListN.{length, getD, set, take};
+ghost use Rattle.surface.specs.Sheet.{functions};
 ghost use Rattle.surface.specs.Table.{start, slots};
 ghost use Rattle.patch.specs.Steps.{midway, Small};
 ghost use Rattle.rows.specs.Rows.{Nested};
 ghost use Rattle.activity.specs.Marks.{marked};
 ghost use Rattle.carry.specs.Carried.{CarriedFit, carriedSlice, CarriedTo, Within};
-ghost use Rattle.carry.specs.Carried.{childFrom, AlongV, carriedIf, rowCarried};
+ghost use Rattle.carry.specs.Carried.{childFrom, AlongV, carriedIf, rowCarried, NextRow};
 
 // Child c of its two or three parents: the first stands at a place, each other a step after the one before it.
 fn child(values: &[i64], at: usize, step: usize, c: usize) -> i64
@@ -77,6 +78,38 @@ fn fill_row(row: &mut [i64], own: &[i64], sums: &[i64; 35], inside: activity::Ma
         k += 1;
     }
     put(row, own, sums, m.even % 2, 2 * k);
+}
+
+// Writes row b of the level after `level` from the numbers of `level`, whose rows from `first` on are lent, and from
+// its own: those functions keep their own number whose cut support lies in the region of their level.
+pub fn next_row(
+    row: &mut [i64],
+    own: &[i64],
+    coarse: &[i64],
+    sums: &mut [i64; 35],
+    rows: &[u32; 96],
+    w: usize,
+    h: usize,
+    level: usize,
+    b: usize,
+    first: usize,
+)
+    requires { ⌜ (w ≤ 8) × (h ≤ 8) × (level < 3) × (b < functions h (level + 1)) × (first ≤ b / 2)
+        × ((b / 2 - first + b % 2 + 2) * functions w level ≤ length (now coarse)) × Within 131072000 (now coarse)
+        × (length (now row) ≡ functions w (level + 1)) × (length (now own) ≡ functions w (level + 1))
+        × (length (now sums) ≡ 35) × Within midway (now sums) × Nested (now rows) ⌝ }
+    ensures { λ _. ⌜ NextRow w h (now (rows .entry)) level b first (now (coarse .entry)) (now (own .entry))
+        (now (row .exit))
+        × (length (now (sums .exit)) ≡ 35) × Within midway (now (sums .exit)) ⌝ }
+{
+    let inside = activity::region_row(rows, w, h, level + 1, b, level + 1);
+    along_v(
+        sums,
+        coarse,
+        coefficients::functions(w, level),
+        b - 2 * first,
+    );
+    fill_row(row, own, sums, inside, activity::eighths(level + 1));
 }
 
 // Writes the carried values of the level after `coarse`; those of the levels up to `coarse` are written.

@@ -3,6 +3,7 @@
 // written where it refuses. What a call writes must not overlap anything else that it is lent.
 pub mod files;
 pub mod flag;
+pub mod grids;
 
 ghost use mathlib.Core.Path.{_≡_};
 ghost use Rattle.surface.specs.Table.{tableCause};

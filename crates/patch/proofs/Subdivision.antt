@@ -60,7 +60,7 @@ odd-value x y z {r} f hx hy hz e =
 
 -- ---- the meaning of two steps
 
-patch-entry : (f : ℕ → ℕ → ℤ) (k l : ℕ) → k < 4 → l < 4 → entry (patchOf f) k l ≡ f k l
+pub patch-entry : (f : ℕ → ℕ → ℤ) (k l : ℕ) → k < 4 → l < 4 → entry (patchOf f) k l ≡ f k l
 patch-entry f k l hk hl =
     each (λ k. entry (patchOf f) k l ≡ f k l)
     (each (λ l. entry (patchOf f) 0 l ≡ f 0 l) refl refl refl refl l hl)
@@ -69,14 +69,14 @@ patch-entry f k l hk hl =
     (each (λ l. entry (patchOf f) 3 l ≡ f 3 l) refl refl refl refl l hl)
     k hk
 
-row-entry : (p : List (List ℤ)) (h k l : ℕ) → k < 4 → l < 4
+pub row-entry : (p : List (List ℤ)) (h k l : ℕ) → k < 4 → l < 4
     → entry (alongV h p) k l
     ≡ getD (childrenOf h (entry p k 0) (entry p k 1) (entry p k 2) (entry p k 3)) l (pos 0)
 unfolding alongV
 row-entry p h =
     patch-entry (λ k l. getD (childrenOf h (entry p k 0) (entry p k 1) (entry p k 2) (entry p k 3)) l (pos 0))
 
-column-entry : (p : List (List ℤ)) (g k l : ℕ) → k < 4 → l < 4
+pub column-entry : (p : List (List ℤ)) (g k l : ℕ) → k < 4 → l < 4
     → entry (alongU g p) k l
     ≡ getD (childrenOf g (entry p 0 l) (entry p 1 l) (entry p 2 l) (entry p 3 l)) k (pos 0)
 unfolding alongU

@@ -5,7 +5,6 @@ mod levels;
 mod notes;
 
 ghost use mathlib.Core.Path.{_≡_};
-ghost use mathlib.Core.List.{[], _∷_};
 ghost use Prim.Native.Nat.{ℕ, _+_, _≤_, _<_};
 ghost use lib.ListN.{length, getD};
 ghost use Rattle.surface.specs.Table.{coefficients};
@@ -27,16 +26,6 @@ fn file_length(tree: usize, counts: [usize; 4]) -> usize
     let heads = tablefile::FIELDS * fields::HEAD;
     let active = counts[0] + counts[1] + counts[2] + counts[3];
     heads + tablefile::SIDES + tree + tablefile::COUNTS + fields::number::SIZE * active
-}
-
-// Puts the field of the sides at the front of a buffer.
-fn put_sides(w: usize, h: usize, out: &mut [u8]) -> usize
-    requires { ⌜ (w ≤ 8) × (h ≤ 8) × (5 ≤ length (now out)) ⌝ }
-    ensures { λ r. ⌜ Put (fieldBytes 1 (w ∷ h ∷ [])) 0 (now (out .entry)) r (now (out .exit)) ⌝ }
-{
-    let body = fields::put_head(tablefile::SIDES_TAG, tablefile::SIDES, out, 0);
-    let next = fields::put_byte(w as u8, out, body);
-    fields::put_byte(h as u8, out, next)
 }
 
 // Puts the field of a body, the tree or a note, at a position.
@@ -65,7 +54,7 @@ fn put_file(
     ensures { λ r. ⌜ Put (fileUnder w h (now (tree .entry)) (levelsOf (now (rows .entry)))
         (coefficients w h (now (numbers .entry)))) 0 (now (out .entry)) r (now (out .exit)) ⌝ }
 {
-    let field = put_sides(w, h, out);
+    let field = tablefile::put_sides(w, h, out);
     let end = put_field(tablefile::TREE_TAG, tree, out, field);
     let from = counts::put_counts(counts, out, end);
     levels::put_levels(numbers, rows, w, h, counts, out, from)

@@ -1,23 +1,22 @@
 -- The refusals of file reading, by either loader, and of saving: each has one of the call's numbers; what is not
 -- declined fills its slice.
 use mathlib.Core.Path.{_≡_, refl, ap, _∙_, subst}
-use mathlib.Core.Bool.{Bool, true, false, not, _&&_, cond}
+use mathlib.Core.Bool.{Bool, true, false, not, cond}
 use mathlib.Core.List.{List, [], _∷_}
 use Prim.Native.Nat.{ℕ, zero, suc, _+_, _*_, _≤_}
 use native.Mathlib.Nat.{mul-comm}
 use native.Mathlib.Omega.{arith}
 use lib.IntN.{ℤ}
-use lib.Dec.{leb, ltb, eqb, eqb·suc-zero}
+use lib.Dec.{ltb, eqb}
 use lib.ListN.{length, getD, length-append}
 use borrow.Author.Tests.{ltb-false}
 use Rattle.finite.proofs.Table.{length-grid}
 use Rattle.surface.specs.Sheet.{functions}
 use Rattle.surface.specs.Support.{activeCount}
-use Rattle.surface.specs.Table.{cause, _orElse_, treeOf, formed, levels, places, start, slots}
+use Rattle.surface.specs.Table.{_orElse_, treeOf, formed, levels, places, start, slots}
 use Rattle.surface.specs.Table.{limit, tableCause}
 use Rattle.surface.specs.Calls.{put}
-use Rattle.surface.specs.Fields.{Judged, declined, contains, unless, Part, holds, inPart, lengthAt, field}
-use Rattle.surface.specs.Fields.{checked, allWithin}
+use Rattle.surface.specs.Fields.{Judged, declined, contains, Part, holds, inPart, field, checked, allWithin}
 use Rattle.surface.specs.Note.{Note, none, noted, noteFits, noteField}
 use Rattle.surface.specs.TableFile.{sidesIn, goodSides, sidesField, treeField, countsAgree, countsField, loaded}
 use Rattle.surface.specs.TableFile.{levelLoaded, levelField, levelFields, Loaded, File, endCause, fileContents}
@@ -25,73 +24,40 @@ use Rattle.surface.specs.TableFile.{fileOutcomeOf, fileOutcome, fileOf}
 use Rattle.surface.specs.BenchLoading.{noteOf, notePart, benchOutcome}
 use Rattle.surface.specs.Saving.{noteCause, fileOutCause, saveCause, saveOutcome}
 use Rattle.surface.specs.Demands.{among, WritesAllOrNothing, WritesSliceOrNothing, TellsNote}
-use Rattle.surface.proofs.RefusalLaws.{OneOf, one-or, one-cause, one-table, put-length}
+use Rattle.surface.proofs.JudgedLaws.{Told, bad, good, Heads, told-unless, told-in, told-field, told-checked}
+use Rattle.surface.proofs.RefusalLaws.{one-or, one-cause, one-table, put-length}
 use Rattle.surface.proofs.RefusalLaws.{slice-or-nothing, table-or-nothing}
 use Rattle.surface.proofs.Causes.{orElse-none, cause-none, cause-off}
 
 abbrev js-file : List ℕ
 js-file = 1 ∷ 2 ∷ 4 ∷ 12 ∷ 13 ∷ 14 ∷ 15 ∷ 16 ∷ 17 ∷ 20 ∷ []
 
--- a refusal has one of the numbers, and what is held has a property
-data Told (A : Type 0) (P : A → Type 0) : Judged A → Type 0 where
-  bad : {n : ℕ} → among n js-file ≡ true → Told A P (declined n)
-  good : {a : A} → P a → Told A P (contains a)
-
-positive : (c : ℕ) → OneOf (suc c) js-file → among (suc c) js-file ≡ true
-positive c o = rw (eqb·suc-zero c) at o
-
-module _ {A : Type 0} (P : A → Type 0) where
-  told-unless : (c : ℕ) (j : Judged A) → OneOf c js-file → Told A P j → Told A P (unless c j)
-  told-unless zero j o h = h
-  told-unless (suc c) j o h = bad (positive c o)
-
-  told-in : {B : Type 0} (Q : Part B → Type 0) (j : Judged (Part B)) (f : B → List ℕ → Judged A) → Told (Part B) Q j
-      → ((p : Part B) → Q p → Told A P (f (p .content) (p .rest))) → Told A P (inPart j f)
-  told-in Q (declined n) f (bad m) h = bad m
-  told-in Q (contains p) f (good q) h = h p q
-
-told-field : (tag low high : ℕ) (s : List ℕ) → Told (Part (List ℕ)) (λ p. Unit) (field tag low high s)
-unfolding field
-told-field tag low high s =
-    let n = lengthAt s in
-    let b1 = ltb (length s) 3 in
-    let b2 = not (eqb (getD s 0 0) tag) in
-    let b3 = not (leb low n && leb n high) in
-    let b4 = ltb (length s) (3 + n) in
-    told-unless (λ p. Unit) (cause 12 b1 orElse cause 13 b2 orElse cause 14 b3 orElse cause 12 b4) _
-    (one-or (cause 12 b1) (cause 13 b2 orElse cause 14 b3 orElse cause 12 b4) js-file (one-cause 12 b1 js-file refl)
-    (one-or (cause 13 b2) (cause 14 b3 orElse cause 12 b4) js-file (one-cause 13 b2 js-file refl)
-    (one-or (cause 14 b3) (cause 12 b4) js-file (one-cause 14 b3 js-file refl) (one-cause 12 b4 js-file refl))))
-    (good tt)
-
--- the contents of a field have a number of their own
-told-checked : {A : Type 0} (P : Part A → Type 0) (tag low high n : ℕ) (ok : List ℕ → Bool) (of : List ℕ → A)
-    (s : List ℕ) → OneOf n js-file → ((b rest : List ℕ) → P (record { content = of b; rest = rest }))
-    → Told (Part A) P (checked (field tag low high s) n ok of)
-told-checked P tag low high n ok of s m h =
-    told-in P (λ p. Unit) (field tag low high s) _ (told-field tag low high s)
-    λ p u. told-unless P (cause n (not (ok (p .content)))) _ (one-cause n (not (ok (p .content))) js-file m)
-    (good (h (p .content) (p .rest)))
+-- the numbers of a field's head and body are among them
+heads : Heads js-file
+heads = record { cut = refl; tag = refl; size = refl }
 
 -- the counts, or nothing
-told-counts : (n : ℕ → ℕ) (s : List ℕ) → Told (Part (List ℕ)) (λ p. Unit) (countsField n s)
+told-counts : (n : ℕ → ℕ) (s : List ℕ) → Told js-file (Part (List ℕ)) (λ p. Unit) (countsField n s)
 unfolding countsField
 told-counts n s = go (eqb (getD s 0 0) 3)
   where
     go : (t : Bool)
-        → Told (Part (List ℕ)) (λ p. Unit)
+        → Told js-file (Part (List ℕ)) (λ p. Unit)
         (cond t (checked (field 3 8 8 s) 20 (countsAgree n) (λ b. b)) (holds [] s))
-    go true = told-checked (λ p. Unit) 3 8 8 20 (countsAgree n) (λ b. b) s refl λ b rest. tt
+    go true = told-checked js-file heads (λ p. Unit) 3 8 8 20 (countsAgree n) (λ b. b) s refl λ b rest. tt
     go false = good tt
 
 -- a note, or none
-told-note : (s : List ℕ) → Told (Part Note) (λ p. Unit) (noteField s)
+told-note : (s : List ℕ) → Told js-file (Part Note) (λ p. Unit) (noteField s)
 unfolding noteField
 told-note s = go (eqb (getD s 0 0) 32)
   where
     go : (t : Bool)
-        → Told (Part Note) (λ p. Unit) (cond t (inPart (field 32 0 64 s) λ b rest. holds (noted b) rest) (holds none s))
-    go true = told-in (λ p. Unit) (λ p. Unit) (field 32 0 64 s) _ (told-field 32 0 64 s) λ p u. good tt
+        → Told js-file (Part Note) (λ p. Unit)
+        (cond t (inPart (field 32 0 64 s) λ b rest. holds (noted b) rest) (holds none s))
+    go true =
+        told-in js-file (λ p. Unit) (λ p. Unit) (field 32 0 64 s) _ (told-field js-file heads 32 0 64 s)
+        λ p u. good tt
     go false = good tt
 
 -- the levels below n fill their part of the slice
@@ -99,15 +65,16 @@ abbrev Fills : ℕ → ℕ → ℕ → Part (List ℤ) → Type 0
 Fills W H n p = length (p .content) ≡ start W H n
 
 told-levels : (W H : ℕ) (lev : ℕ → ℕ → ℕ) (n : ℕ) (s : List ℕ)
-    → Told (Part (List ℤ)) (Fills W H n) (levelFields W H lev n s)
+    → Told js-file (Part (List ℤ)) (Fills W H n) (levelFields W H lev n s)
 unfolding levelFields levelField start
 told-levels W H lev zero s = good refl
 told-levels W H lev (suc L) s =
     let k = activeCount W H lev L in
     let sized : Part (List ℤ) → Type 0 = λ p. length (p .content) ≡ places W H L in
-    told-in (Fills W H (suc L)) (Fills W H L) (levelFields W H lev L s) _ (told-levels W H lev L s)
-    λ before e. told-in (Fills W H (suc L)) sized (levelField W H lev L (before .rest)) _
-    (told-checked sized (16 + L) (5 * k) (5 * k) 4 (allWithin (limit L) k) (levelLoaded W H lev L) (before .rest) refl
+    told-in js-file (Fills W H (suc L)) (Fills W H L) (levelFields W H lev L s) _ (told-levels W H lev L s)
+    λ before e. told-in js-file (Fills W H (suc L)) sized (levelField W H lev L (before .rest)) _
+    (told-checked js-file heads sized (16 + L) (5 * k) (5 * k) 4 (allWithin (limit L) k) (levelLoaded W H lev L)
+    (before .rest) refl
     λ b rest. length-grid (functions W L) (functions H L) (loaded W H lev L b)
     ∙ mul-comm (functions H L) (functions W L))
     λ p q. good (length-append (before .content) (p .content) ∙ omega (arith, e, q))
@@ -116,37 +83,39 @@ pub levels-size : (W H : ℕ) (lev : ℕ → ℕ → ℕ) (n : ℕ) (s : List �
     → levelFields W H lev n s ≡ holds cs rest → length cs ≡ start W H n
 levels-size W H lev n s cs rest e = go (levelFields W H lev n s) (told-levels W H lev n s) e
   where
-    go : (j : Judged (Part (List ℤ))) → Told (Part (List ℤ)) (Fills W H n) j → j ≡ holds cs rest
+    go : (j : Judged (Part (List ℤ))) → Told js-file (Part (List ℤ)) (Fills W H n) j → j ≡ holds cs rest
         → length cs ≡ start W H n
     go (declined m) t e = absurd (let z : _≡_ {A = ℕ} 0 1 = cc in omega arith)
     go (contains p) (good h) e =
         let same : p ≡ record { content = cs; rest = rest } = cc in subst (Fills W H n) same h
 
 -- a file that is not declined fills its slice
-told-file : (s : List ℕ) → Told Loaded (λ f. length (f .numbers) ≡ slots (f .W) (f .H)) (fileContents s)
+told-file : (s : List ℕ) → Told js-file Loaded (λ f. length (f .numbers) ≡ slots (f .W) (f .H)) (fileContents s)
 unfolding fileContents sidesField treeField
 told-file s =
     let filled : Loaded → Type 0 = λ f. length (f .numbers) ≡ slots (f .W) (f .H) in
-    told-in filled (λ p. Unit) (sidesField s) _
-    (told-checked (λ p. Unit) 1 2 2 1 (λ b. goodSides (sidesIn b)) sidesIn s refl λ b rest. tt)
+    told-in js-file filled (λ p. Unit) (sidesField s) _
+    (told-checked js-file heads (λ p. Unit) 1 2 2 1 (λ b. goodSides (sidesIn b)) sidesIn s refl λ b rest. tt)
     λ p u.
     let W = p .content .W in
     let H = p .content .H in
-    told-in filled (λ p. Unit) (treeField W H (p .rest)) _
-    (told-checked (λ p. Unit) 2 1 1365 2 (λ t. formed W H (treeOf t)) (λ t. t) (p .rest) refl λ b rest. tt)
-    λ t v. told-in filled (λ p. Unit) (countsField (activeCount W H (levels (t .content))) (t .rest)) _
+    told-in js-file filled (λ p. Unit) (treeField W H (p .rest)) _
+    (told-checked js-file heads (λ p. Unit) 2 1 1365 2 (λ t. formed W H (treeOf t)) (λ t. t) (p .rest) refl
+    λ b rest. tt)
+    λ t v. told-in js-file filled (λ p. Unit) (countsField (activeCount W H (levels (t .content))) (t .rest)) _
     (told-counts (activeCount W H (levels (t .content))) (t .rest))
-    λ c w. told-in filled (Fills W H 4) (levelFields W H (levels (t .content)) 4 (c .rest)) _
+    λ c w. told-in js-file filled (Fills W H 4) (levelFields W H (levels (t .content)) 4 (c .rest)) _
     (told-levels W H (levels (t .content)) 4 (c .rest))
-    λ cs h. told-in filled (λ p. Unit) (noteField (cs .rest)) _ (told-note (cs .rest))
-    λ n x. told-unless filled (endCause (n .rest)) _ (one-cause 15 (ltb 0 (length (n .rest))) js-file refl) (good h)
+    λ cs h. told-in js-file filled (λ p. Unit) (noteField (cs .rest)) _ (told-note (cs .rest))
+    λ n x. told-unless js-file filled (endCause (n .rest)) _
+    (one-cause 15 (ltb 0 (length (n .rest))) js-file refl) (good h)
 
 pub file-refusals : (s treeOut : List ℕ) (numbersOut : List ℤ)
     → WritesAllOrNothing js-file (fileOutcome s treeOut numbersOut) treeOut numbersOut
 unfolding fileOutcome
 file-refusals s treeOut numbersOut = go (fileContents s) (told-file s)
   where
-    go : (f : File) → Told Loaded (λ f. length (f .numbers) ≡ slots (f .W) (f .H)) f
+    go : (f : File) → Told js-file Loaded (λ f. length (f .numbers) ≡ slots (f .W) (f .H)) f
         → WritesAllOrNothing js-file (fileOutcomeOf f treeOut numbersOut) treeOut numbersOut
     go (declined n) (bad h) =
         record {

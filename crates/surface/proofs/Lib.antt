@@ -1,6 +1,7 @@
 pub mod Causes
 pub mod Applied
 pub mod AppliedSlips
+pub mod AppliedGrids
 pub mod TreeForm
 pub mod TreeBytes
 pub mod TreeLevels
@@ -32,7 +33,9 @@ pub mod Around
 pub mod Steps
 pub mod RefusalLaws
 pub mod SlopesGiven
+pub mod JudgedLaws
 pub mod FileRefusals
+pub mod GridRefusals
 pub mod Refusals
 pub mod Writers
 pub mod Demands

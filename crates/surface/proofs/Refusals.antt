@@ -34,6 +34,7 @@ use Rattle.surface.proofs.RefusalLaws.{OneOf, one-or, one-cause, one-re
 use Rattle.surface.proofs.RefusalLaws.{sent, slice-or-nothing, table-or-nothing}
 use Rattle.surface.proofs.SlopesGiven.{slopes-given}
 use Rattle.surface.proofs.FileRefusals.{file-refusals, bench-refusals, save-refusals}
+use Rattle.surface.proofs.GridRefusals.{write-grid-refusals, read-grid-refusals}
 
 -- ---- the calls
 
@@ -183,4 +184,6 @@ refusals =
       file = file-refusals;
       bench = bench-refusals;
       save = save-refusals;
+      writeGrid = write-grid-refusals;
+      readGrid = read-grid-refusals;
     }

@@ -30,6 +30,7 @@ use Rattle.surface.specs.Note.{Note, noPart}
 use Rattle.surface.specs.TableFile.{fileOutcome}
 use Rattle.surface.specs.BenchLoading.{Benched, benchOutcome}
 use Rattle.surface.specs.Saving.{saveOutcome}
+use Rattle.surface.specs.Grid.{writeGridOutcome, gridContents, Converted, OverTree, readGridOutcome}
 
 -- ---- demand 1: "a call gives its full result, or one refusal number from document 01 and writes nothing"
 
@@ -49,7 +50,8 @@ pub record WritesAllOrNothing {A : Type 0} (numbers : List ℕ) (o : Written A) 
   pub refusal : (n : ℕ) → o .result ≡ refused n → (o .tree ≡ treeOut) × (o .numbers ≡ numbersOut)
   pub lengths : (length (o .tree) ≡ length treeOut) × (length (o .numbers) ≡ length numbersOut)
 
--- The same of a call that writes to one lent slice: set to one place of it, activity to all of it, saving to its front.
+-- The same of a call that writes to one lent slice: set to one place of it, activity and the conversion of a grid to
+-- all of it, saving and the writing of a grid to its front.
 pub record WritesSliceOrNothing {A B : Type 0} (numbers : List ℕ) (o : Done A B) (lent : List B) : Type 0 where
   pub number : RefusesWith numbers (o .result)
   pub refusal : (n : ℕ) → o .result ≡ refused n → o .after ≡ lent
@@ -97,6 +99,12 @@ pub record Refusals : Type 0 where
       × TellsNote (benchOutcome bytes treeOut numbersOut)
   pub save : (W H : ℕ) (t : List ℕ) (cs : List ℤ) (note : Note) (out : List ℕ)
       → WritesSliceOrNothing (1 ∷ 2 ∷ 3 ∷ 4 ∷ 5 ∷ 14 ∷ 18 ∷ []) (saveOutcome W H t cs note out) out
+  pub writeGrid : (W H : ℕ) (t : List ℕ) (cs : List ℤ) (out : List ℕ)
+      → WritesSliceOrNothing (1 ∷ 2 ∷ 3 ∷ 4 ∷ 5 ∷ 18 ∷ []) (writeGridOutcome W H t cs out) out
+  -- Reading a grid, whichever of the two is so: that there is a table over the tree, or that there is none.
+  pub readGrid : (file t : List ℕ) (out : List ℤ) (converted : Converted) → OverTree (gridContents file) t converted
+      → WritesSliceOrNothing (1 ∷ 2 ∷ 4 ∷ 12 ∷ 13 ∷ 14 ∷ 15 ∷ 16 ∷ 21 ∷ [])
+      (readGridOutcome (gridContents file) t converted out) out
 
 -- ---- demand 2: "A function is active exactly when the selection rule of source document 003 makes it so."
 

@@ -5,6 +5,7 @@ pub mod Inverses
 pub mod UnderCell
 pub mod ReverseSubdivision
 pub mod Shown
+pub mod Grids
 pub mod OneSurface
 pub mod Carried
 pub mod OfCalls

@@ -2,11 +2,11 @@
 use mathlib.Core.Path.{_≡_, sym, ap, ap₂, _∙_}
 use mathlib.Core.Bool.{true, _&&_}
 use mathlib.Core.List.{List}
-use Prim.Native.Nat.{ℕ, _+_, _-_, _*_, _/_, _≤_, _<_}
+use Prim.Native.Nat.{ℕ, _+_, _-_, _*_, _/_, _<_}
 use native.Mathlib.Nat.{le-refl}
 use native.Mathlib.Omega.{arith}
 use lib.Dec.{lit≤}
-use lib.IntN.{ℤ, pos, _*ℤ_, *ℤ-comm}
+use lib.IntN.{ℤ, pos, _*ℤ_}
 use lib.ListN.{drop}
 use lib.Seq.{getD-drop}
 use Rattle.finite.proofs.Sum.{sum2-cong}
@@ -14,12 +14,11 @@ use Rattle.finite.proofs.Tests.{pick}
 use Rattle.surface.specs.Sheet.{functions, steps}
 use Rattle.surface.specs.Spline.{cellOf, piece}
 use Rattle.surface.specs.Support.{shares, leastUnder, active}
-use Rattle.surface.specs.Truncation.{valueAt}
 use Rattle.surface.specs.Carry.{carried}
 use Rattle.surface.specs.Patch.{patch, patchReading}
 use Rattle.surface.specs.Table.{levels, start, coefficients, regionCause, tableCause, Acceptable}
 use Rattle.surface.specs.Calls.{exactOutcome}
-use Rattle.surface.specs.Grid.{gridNumber, gridReading}
+use Rattle.surface.specs.Grid.{gridNumber}
 use Rattle.surface.proofs.Causes.{orElse-none}
 use Rattle.surface.proofs.Least.{le-leastWhere}
 use Rattle.surface.proofs.SplineCell.{cell-inside}
@@ -28,14 +27,15 @@ use Rattle.surface.proofs.PatchReading.{patch-carried, patch-reading}
 use Rattle.surface.proofs.TableLaws.{sound, sides}
 use Rattle.surface.proofs.Slices.{same-numbers}
 use Rattle.surface.proofs.Around.{on-sheet, sheet-has}
-use Rattle.surface.proofs.Demands.{reading-given, any-level, same-outcome}
+use Rattle.surface.proofs.Demands.{same-outcome}
 use Rattle.uniqueness.specs.OneSurface.{OneSurface, SixteenthsAgree, Sixteenths, SixteenPoints, SixteenEach}
-use Rattle.uniqueness.specs.OneSurface.{TwentyFivePoints, ReadsAs, FullGrid, OneTableOfGrid}
+use Rattle.uniqueness.specs.OneSurface.{TwentyFivePoints, FullGrid, OneTableOfGrid}
 use Rattle.uniqueness.proofs.Points.{decided}
 use Rattle.uniqueness.proofs.CellPoints.{cellPoint, cellValues, cell-points}
 use Rattle.uniqueness.proofs.QuarterPoints.{quarterPoint, collocation, quarter-points}
 use Rattle.uniqueness.proofs.Inverses.{cellValuesBack, values-inverse, collocationBack, collocation-inverse}
 use Rattle.uniqueness.proofs.Shown.{same-reading, shown-once, each-shown}
+use Rattle.uniqueness.proofs.Grids.{reads-acceptable, grid-of-carried}
 
 pub sixteen-points : SixteenPoints
 sixteen-points W H t c d acc acc′ L a b x y shows agree =
@@ -155,19 +155,8 @@ sixteenths W H t c d acc acc′ agree =
 -- ---- a grid
 
 pub full-grid : FullGrid
-unfolding gridReading coefficients leastUnder
-full-grid W H t cs acc fine u v on =
-    let s = sides (sound W H t cs acc) in
-    let (hu, hv) = on-sheet W H u v on in
-    let f = carried W H (levels t) (coefficients W H cs) 3 in
-    reading-given W H t cs u v (gridReading W H (drop (start W H 3) cs) u v) .1 (
-      acc,
-      on,
-      any-level W H (levels t) (coefficients W H cs) u v (s .0) (s .2) hu hv 3 (lit≤ tt) (omega arith) .0
-          ∙ sum2-cong (functions W 3) (functions H 3) (λ a b. valueAt W H u v 3 a b *ℤ f a b)
-          (λ a b. gridNumber W (drop (start W H 3) cs) a b *ℤ valueAt W H u v 3 a b)
-          (λ a b _ _. *ℤ-comm (valueAt W H u v 3 a b) (f a b) ∙ ap (λ c. c *ℤ valueAt W H u v 3 a b) (own a b)),
-    )
+unfolding coefficients leastUnder
+full-grid W H t cs acc fine = grid-of-carried W H t cs (drop (start W H 3) cs) acc (λ a b _ _. own a b)
   where
     -- no square is coarser, so each function has its own coefficient
     own : (a b : ℕ) → carried W H (levels t) (coefficients W H cs) 3 a b ≡ gridNumber W (drop (start W H 3) cs) a b
@@ -179,9 +168,5 @@ full-grid W H t cs acc fine u v on =
 
 pub one-table-of-grid : OneTableOfGrid
 one-table-of-grid W H t grid c d reads reads′ =
-    one-surface W H t c d (read W H t c grid reads) (read W H t d grid reads′)
+    one-surface W H t c d (reads-acceptable W H t c grid reads) (reads-acceptable W H t d grid reads′)
     (λ u v on. reads u v on ∙ sym (reads′ u v on))
-  where
-    -- a table that is read at the near corner is acceptable
-    read : (W H : ℕ) (t : List ℕ) (cs grid : List ℤ) → ReadsAs W H t cs grid → Acceptable W H t cs
-    read W H t cs grid h = reading-given W H t cs 0 0 _ .0 (h 0 0 (sheet-has W H 0 0 (omega arith) (omega arith))) .0

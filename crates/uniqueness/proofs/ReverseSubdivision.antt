@@ -37,10 +37,10 @@ subdivided-once g h p q hg hh e =
     ∙ subdivided-weights g h q k l hg hh hk hl)
 
 module _ (W H : ℕ) (lev : ℕ → ℕ → ℕ) (x y : ℕ) (hx : x < 8 * W) (hy : y < 8 * H) where
-  abbrev cu : ℕ → ℕ
+  abbrev pub cu : ℕ → ℕ
   cu L = cellOf W L (middle x)
 
-  abbrev cv : ℕ → ℕ
+  abbrev pub cv : ℕ → ℕ
   cv L = cellOf H L (middle y)
 
   pW : 0 < W
@@ -49,11 +49,11 @@ module _ (W H : ℕ) (lev : ℕ → ℕ → ℕ) (x y : ℕ) (hx : x < 8 * W) (h
   pH : 0 < H
   pH = omega arith
 
-  abbrev at : (ℕ → ℕ → ℕ → ℤ) → ℕ → ℕ → ℕ → ℤ
+  abbrev pub at : (ℕ → ℕ → ℕ → ℤ) → ℕ → ℕ → ℕ → ℤ
   at coef L k l = patch W H lev coef (middle x) (middle y) L k l
 
   -- above the level of the quarter square the whole patch is subdivided
-  at-step : (coef : ℕ → ℕ → ℕ → ℤ) (L : ℕ) → L < 3 → lev (x / 2) (y / 2) ≤ L → (k l : ℕ) → k < 4 → l < 4
+  pub at-step : (coef : ℕ → ℕ → ℕ → ℤ) (L : ℕ) → L < 3 → lev (x / 2) (y / 2) ≤ L → (k l : ℕ) → k < 4 → l < 4
       → at coef (suc L) k l ≡ subdivided (cu (suc L) % 2) (cv (suc L) % 2) (at coef L) k l
   unfolding patch
   at-step coef L hL low k l hk hl =

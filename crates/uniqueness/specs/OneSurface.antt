@@ -12,7 +12,7 @@ use Rattle.surface.specs.Sheet.{functions, quarters, onSheet}
 use Rattle.surface.specs.Support.{lowEnd, highEnd, active}
 use Rattle.surface.specs.Table.{levels, start, coefficients, regionCause, Acceptable}
 use Rattle.surface.specs.Calls.{gives, exactOutcome}
-use Rattle.surface.specs.Grid.{gridReading}
+use Rattle.surface.specs.Grid.{ReadsAs}
 use Rattle.surface.specs.Demands.{Commit, Contents, outcomeOf, committed, SameRegions, Step, afterAll}
 
 -- "exact readings agree at every point of the 1/128 grid". (Two tables that are refused alike agree too; of acceptable
@@ -98,11 +98,6 @@ TwentyFivePoints =
     → coefficients W H c L a b ≡ coefficients W H d L a b
 
 -- ---- "It follows that a grid converts to at most one table over a tree"
-
--- The table has the grid's exact reading at every point. (It is then acceptable: no other table is read.)
-abbrev pub ReadsAs : ℕ → ℕ → List ℕ → List ℤ → List ℤ → Type 0
-ReadsAs W H t cs grid =
-    (u v : ℕ) → onSheet W H u v ≡ true → exactOutcome W H t cs u v ≡ gives (gridReading W H grid u v)
 
 -- A table that has its whole sheet at level 3 reads as the grid of its level 3 coefficients, which end its slice.
 abbrev pub FullGrid : Type 0

@@ -3,8 +3,8 @@ use mathlib.Core.Path.{refl}
 use mathlib.Core.List.{[], _∷_}
 use Rattle.fields.proofs.PutLaws.{put-both, put-field}
 use borrow.Author.Needs.{needs}
-use Rattle.saving.proofs.put_sides.Statement.{statement}
-use Rattle.saving.proofs.put_sides.Tie as tie
+use Rattle.tablefile.proofs.put_sides.Statement.{statement}
+use Rattle.tablefile.proofs.put_sides.Tie as tie
 
 returns : tie.Need-returns
 returns c =

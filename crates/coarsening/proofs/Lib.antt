@@ -1,0 +1,4 @@
+pub mod SixteenLaws
+pub mod FindLaws
+pub mod BackLaws
+pub mod RowLaws

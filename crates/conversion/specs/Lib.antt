@@ -1,0 +1,3 @@
+pub mod Grids
+pub mod Cases
+pub mod OfCalls
