@@ -5,17 +5,18 @@
    the library to target/staticlib/libkiln.a, for x86-64. It needs memcpy and memset and nothing else.
 
    Headers
-     There are five, in one folder. This one includes kiln_sizes.h, the fixed numbers and the lengths of slices, and
-     kiln_refusal.h, the refusal numbers and their words. kiln_table.h has the same calls with a table, a box and a slip
-     in structs, and kiln_arrow.h an arrow for the display. The calls are proved; the static inline functions of all
-     five headers are plain C, which is tested and not proved.
+     There are six, in one folder. This one includes kiln_sizes.h, the fixed numbers and the lengths of slices,
+     kiln_refusal.h, the refusal numbers and their words, and kiln_grid.h, the two calls for plain bicubic grids.
+     kiln_table.h has the same calls with a table, a box and a slip in structs, and kiln_arrow.h an arrow for the
+     display. The calls are proved; the static inline functions of all six headers are plain C, which is tested and not
+     proved.
 
    Answers
      Every call returns 0 when it is done, else the refusal number of the cause that applies, the lowest where several
-     do, but 19 before 16 and 17, and for a file the first in byte order (enum kiln_refusal; kiln_refusal_words).
-     Each call below names those that it can give. What it gives beside is written through its pointers. A refused call
-     writes nothing: every buffer and every value that was lent holds what it held before. Every call ends in one of
-     the two, whatever the numbers and the contents of the buffers are.
+     do, but 19 and 21 before 16 and 17; a file is judged in byte order, and so is a grid, before the tree that is lent
+     with it (enum kiln_refusal; kiln_refusal_words). Each call names those that it can give. What it gives beside is
+     written through its pointers. A refused call writes nothing: every buffer and every value that was lent holds what
+     it held before. Every call ends in one of the two, whatever the numbers and the contents of the buffers are.
 
    Slices
      A buffer passes as a pointer and, right after it, a length in elements. The length is taken as said: that many
@@ -30,11 +31,12 @@
    Threads, stack and memory
      The library has no state: what a call does depends on what it is lent and on nothing else. Any number of calls may
      run at a time as long as none writes what another reads or writes; what is only read may be shared between
-     threads. No call allocates, takes a lock or touches a file. None takes more than 8 KiB of stack, which is
-     measured by the benchmark and held by the gate, not proved. */
+     threads. No call allocates, takes a lock or touches a file. None takes more than 8 KiB of stack, but
+     kiln_read_grid, which takes up to 20 KiB; this is measured by the benchmark and held by the gate, not proved. */
 #ifndef KILN_H
 #define KILN_H
 
+#include "kiln_grid.h"
 #include "kiln_refusal.h"
 #include "kiln_sizes.h"
 
@@ -48,7 +50,7 @@ extern "C" {
 /* The version of this header, which is that of the library it came with. The archive itself carries none: compile a
    program with the header of the archive that it links. */
 #define KILN_VERSION_MAJOR 0
-#define KILN_VERSION_MINOR 8
+#define KILN_VERSION_MINOR 9
 #define KILN_VERSION_PATCH 0
 
 /* The table

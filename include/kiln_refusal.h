@@ -6,7 +6,8 @@
 #include <stdint.h>
 
 /* The causes of refusal, in words by kiln_refusal_words. Later versions may have more numbers. 14 is also for a note
-   above 64 bytes that is lent to kiln_write_file: its field would have a wrong length, so the words serve for both. */
+   above 64 bytes that is lent to kiln_write_file: its field would have a wrong length, so the words serve for both. A
+   grid is a file of two fields: 12 to 15 and 18 are also for one, and 4 for any of its numbers. */
 enum kiln_refusal {
   KILN_DONE = 0,
   KILN_SIDE = 1,
@@ -28,7 +29,8 @@ enum kiln_refusal {
   KILN_TREE_OUTPUT_SHORT = 17,
   KILN_FILE_OUTPUT_SHORT = 18,
   KILN_SLIP = 19,
-  KILN_FILE_COUNT = 20
+  KILN_FILE_COUNT = 20,
+  KILN_NO_TABLE = 21
 };
 
 /* What a call returned, in words; for every number, never NULL. */
@@ -55,6 +57,7 @@ static inline const char *kiln_refusal_words(uint8_t number) {
     case KILN_FILE_OUTPUT_SHORT: return "file output shorter than the file";
     case KILN_SLIP: return "the slip is not the one that this table gives for the slip's own box and level";
     case KILN_FILE_COUNT: return "count in a file differs from the tree's";
+    case KILN_NO_TABLE: return "no acceptable table over that tree has the grid's readings";
     default: return "a cause that this version has no words for";
   }
 }

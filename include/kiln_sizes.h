@@ -1,6 +1,6 @@
-/* The fixed numbers of the kiln power surface, the lengths of a table's slices, what a table file says of itself and
-   the quarter that holds a place, for C and C++. No function here makes a call. The words are those of kiln.h, which
-   includes this header: a program need not name it. */
+/* The fixed numbers of the kiln power surface, the lengths of a table's slices and of a grid, what a table file says
+   of itself and the quarter that holds a place, for C and C++. No function here makes a call. The words are those of
+   kiln.h, which includes this header: a program need not name it. */
 #ifndef KILN_SIZES_H
 #define KILN_SIZES_H
 
@@ -20,6 +20,11 @@
    counts, five for each place and the longest note. A file output of this length is never too short. A longer file is
    refused with the same number when only its first KILN_FILE_BYTES + 1 bytes are lent. */
 #define KILN_FILE_BYTES 32443
+
+/* No grid that is accepted or written is longer: two heads, the sides and five bytes for each level 3 place of an 8
+   by 8 sheet. A grid output of this length is never too short. A longer grid is refused with the same number when only
+   its first KILN_GRID_BYTES + 1 bytes are lent. */
+#define KILN_GRID_BYTES 22453
 
 /* D = 36 * 2^42: an exact reading of x watts has the numerator x * D. */
 #define KILN_DENOMINATOR INT64_C(158329674399744)
@@ -48,6 +53,21 @@ static inline size_t kiln_places(size_t w, size_t h) {
    is refused with another number. */
 static inline size_t kiln_file_places(const uint8_t *file, size_t file_len) {
   return file_len < 5 ? 0 : kiln_places(file[3], file[4]);
+}
+
+/* The length in bytes of the grid of a w by h sheet, which kiln_write_grid's output must have at least: two heads, the
+   sides and five bytes for each place of level 3. 0 for a side that is not 1 to 8, which is refused with another
+   number. */
+static inline size_t kiln_grid_length(size_t w, size_t h) {
+  size_t places = kiln_level_places(w, h, 3);
+  return places ? 3 + 2 + 3 + 5 * places : 0;
+}
+
+/* The places of the sheet of a grid, whose sides are its bytes 3 and 4: the length of the numbers output that
+   kiln_read_grid needs. 0 where the grid is too short to have sides or they are not 1 to 8, which is refused with
+   another number. */
+static inline size_t kiln_grid_places(const uint8_t *grid, size_t grid_len) {
+  return kiln_file_places(grid, grid_len);
 }
 
 /* How many functions of each level are active, as a table file says it, without loading the file. Returns 1 and writes

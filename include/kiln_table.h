@@ -115,6 +115,28 @@ static inline uint8_t kiln_table_write_file(const struct kiln_table *table, uint
   return kiln_table_write_noted(table, 0, NULL, 0, file_out, file_out_len, length);
 }
 
+/* kiln_write_grid. */
+static inline uint8_t kiln_table_write_grid(const struct kiln_table *table, uint8_t *grid_out, size_t grid_out_len,
+                                            size_t *length) {
+  return kiln_write_grid(table->w, table->h, table->tree, table->tree_len, table->numbers, table->numbers_len,
+                         grid_out, grid_out_len, length);
+}
+
+/* kiln_read_grid. The table that made receives has the tree that is lent, where that stands, and its coefficients in
+   numbers, of KILN_PLACES for any sheet: what is past them is left as it was, and too few are refused with 16. made
+   may be the struct whose tree is lent. A refusal leaves numbers and made as they were. */
+static inline uint8_t kiln_table_read_grid(const uint8_t *grid, size_t grid_len, const uint8_t *tree, size_t tree_len,
+                                           int64_t *numbers, size_t numbers_len, struct kiln_table *made) {
+  struct kiln_room room = {NULL, 0, numbers, numbers_len};  /* the table's tree is the one that is lent */
+  size_t w = 0, h = 0;
+  uint8_t refused = kiln_read_grid(grid, grid_len, tree, tree_len, numbers,
+                                   kiln_room_places(room, kiln_grid_places(grid, grid_len)), &w, &h);
+  if (refused) return refused;
+  kiln_room_written(room, w, h, tree_len, made);
+  made->tree = tree;
+  return refused;
+}
+
 /* kiln_fresh. The table that made receives lies in the room. A refusal leaves room and made as they were. */
 static inline uint8_t kiln_table_fresh(struct kiln_sheet sheet, int64_t number, struct kiln_room room,
                                        struct kiln_table *made) {

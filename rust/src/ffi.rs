@@ -75,6 +75,14 @@ extern "C" {
         w: usize, h: usize, tree: *const u8, tree_len: usize, numbers: *const i64, numbers_len: usize, noted: u8,
         note: *const u8, note_len: usize, file_out: *mut u8, file_out_len: usize, length: *mut usize,
     ) -> u8;
+    fn kiln_write_grid(
+        w: usize, h: usize, tree: *const u8, tree_len: usize, numbers: *const i64, numbers_len: usize,
+        grid_out: *mut u8, grid_out_len: usize, length: *mut usize,
+    ) -> u8;
+    fn kiln_read_grid(
+        grid: *const u8, grid_len: usize, tree: *const u8, tree_len: usize, numbers_out: *mut i64,
+        numbers_out_len: usize, w: *mut usize, h: *mut usize,
+    ) -> u8;
 }
 
 /// What a call gives, or the number of its refusal.
@@ -329,54 +337,46 @@ pub fn write_file(
     unless_refused(n, length)
 }
 
-#[cfg(test)]
-mod tests {
-    use super::{unless_refused, write_file};
-    use std::num::NonZeroU8;
-
-    #[test]
-    fn every_number_but_0_is_an_error_value() {
-        assert_eq!(unless_refused(0, 7), Ok(7));
-        for number in 1..=u8::MAX {
-            assert_eq!(unless_refused(number, 7).map_err(NonZeroU8::get), Err(number));
-        }
-    }
-
-    // The file of a sheet of 1 by 1 has 112 bytes, and a note of n bytes adds 3 + n: the crate lends more for it, so
-    // only this shows the refusal.
-    #[test]
-    fn a_file_output_that_is_too_short_is_refused_and_left() {
-        let numbers = [[5; 16].as_slice(), &[0; 195]].concat();
-        let longest: Vec<u8> = (0..64).collect();
-        for note in [None, Some(&longest[..0]), Some(&longest[..7]), Some(&longest[..])] {
-            let end = note.map_or(vec![], |note| [&[32, 0, note.len() as u8], note].concat());
-            let due = 112 + end.len();
-            for lent in 0..=due + 2 {
-                let mut file = vec![9; lent];
-                let saved = write_file([1, 1], &[0], &numbers, note, &mut file).map_err(NonZeroU8::get);
-                if lent < due {
-                    assert_eq!((saved, file), (Err(18), vec![9; lent]));
-                } else {
-                    assert_eq!((saved, &file[109..112], &file[112..due]), (Ok(due), &[19, 0, 0][..], &end[..]));
-                    assert!(file[due..].iter().all(|&byte| byte == 9));
-                }
-            }
-        }
-    }
-
-    // "1 to 5, 14, 18": a bad table before a note above 64 bytes, and that before an output that is too short.
-    #[test]
-    fn a_table_is_judged_before_a_note_and_that_before_the_output() {
-        let good = [[5; 16].as_slice(), &[0; 195]].concat();
-        let over = [[32_001; 16].as_slice(), &[0; 195]].concat();
-        let note = [7; 65];
-        for (numbers, note, due) in
-            [(&over, Some(&note[..]), 4), (&over, None, 4), (&good, Some(&note), 14), (&good, Some(&note[1..]), 18)]
-        {
-            let mut file = [9; 111];
-            assert_eq!(write_file([1, 1], &[0], numbers, note, &mut file).map_err(NonZeroU8::get), Err(due));
-            assert_eq!(file, [9; 111]);
-        }
-        assert_eq!(write_file([1, 1], &[0], &good, Some(&note), &mut [9; 500]).map_err(NonZeroU8::get), Err(14));
-    }
+/// The grid's length.
+pub fn write_grid([w, h]: [usize; 2], tree: &[u8], numbers: &[i64], grid_out: &mut [u8]) -> Answer<usize> {
+    let mut length = 0;
+    // SAFETY: reads two slices that are borrowed for reading; writes one that is borrowed for writing, so apart from
+    // those, and a local value.
+    let n = unsafe {
+        kiln_write_grid(
+            w,
+            h,
+            tree.as_ptr(),
+            tree.len(),
+            numbers.as_ptr(),
+            numbers.len(),
+            grid_out.as_mut_ptr(),
+            grid_out.len(),
+            &mut length,
+        )
+    };
+    unless_refused(n, length)
 }
+
+/// W and H.
+pub fn read_grid(grid: &[u8], tree: &[u8], numbers_out: &mut [i64]) -> Answer<(usize, usize)> {
+    let (mut w, mut h) = (0, 0);
+    // SAFETY: reads two slices that are borrowed for reading; writes one that is borrowed for writing, so apart from
+    // those, and two local values.
+    let n = unsafe {
+        kiln_read_grid(
+            grid.as_ptr(),
+            grid.len(),
+            tree.as_ptr(),
+            tree.len(),
+            numbers_out.as_mut_ptr(),
+            numbers_out.len(),
+            &mut w,
+            &mut h,
+        )
+    };
+    unless_refused(n, (w, h))
+}
+
+#[cfg(test)]
+mod tests;

@@ -1,7 +1,7 @@
 //! Table files: tables loaded from them and saved to them, with a note or without.
 use crate::ffi;
 use crate::refusal::Refusal;
-use crate::sizes::{places, FILE_BYTES, TREE_BYTES};
+use crate::sizes::{told_places, FILE_BYTES, TREE_BYTES};
 use crate::table::Table;
 
 impl Table {
@@ -179,14 +179,9 @@ impl Table {
     }
 }
 
-// Buffers for a file's tree and coefficients. A file that is accepted has its sides in bytes 3 and 4; any other is
-// refused before the output's length is judged.
+// Buffers for a file's tree and coefficients.
 fn outputs(file: &[u8]) -> (Vec<u8>, Vec<i64>) {
-    let places = match file {
-        [_, _, _, w, h, ..] => places(usize::from(*w), usize::from(*h)),
-        _ => 0,
-    };
-    (vec![0; TREE_BYTES], vec![0; places])
+    (vec![0; TREE_BYTES], vec![0; told_places(file)])
 }
 
 // The bytes of a part of a file, if it lies in the file.

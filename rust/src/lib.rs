@@ -1,4 +1,4 @@
-//! Tables of a kiln's power surface: load, refine, read and save them.
+//! Tables of a kiln's power surface: load, refine, read and save them, and exchange them as plain grids.
 //!
 //! Power draw over chamber temperature and climb rate is a surface of truncated hierarchical bicubic splines on a
 //! sheet of W by H cells, each side 1 to 8. A [`Table`] is such a surface: a sheet, a tree of regions and
@@ -31,11 +31,12 @@
 #![deny(unsafe_code)]
 #![warn(missing_docs)]
 
-// Each of ffi, refusal, sizes, place, table, slip, file, arrow, readings and around uses only those before it.
+// Each of ffi, refusal, sizes, place, table, slip, file, grid, arrow, readings and around uses only those before it.
 mod around;
 mod arrow;
 mod ffi;
 mod file;
+mod grid;
 mod place;
 mod readings;
 mod refusal;
@@ -47,7 +48,9 @@ pub use around::ActiveFunction;
 pub use arrow::{Arrow, WattsAndSlopes, Way};
 pub use place::{Point, QuarterBox};
 pub use refusal::Refusal;
-pub use sizes::{file_counts, level_places, place_of, places};
-pub use sizes::{DENOMINATOR, FILE_BYTES, GREATEST_COST, GREATEST_SLOPE, NOTE_BYTES, SLOPE_BOUND, TREE_BYTES};
+pub use sizes::{file_counts, grid_length, level_places, place_of, places};
+pub use sizes::{
+    DENOMINATOR, FILE_BYTES, GREATEST_COST, GREATEST_SLOPE, GRID_BYTES, NOTE_BYTES, SLOPE_BOUND, TREE_BYTES,
+};
 pub use slip::Slip;
 pub use table::{Levels, Table};

@@ -5,9 +5,10 @@ use std::num::NonZeroU8;
 
 macro_rules! refusals {
     ($($number:literal $name:ident $words:literal)*) => {
-        /// Why a call was refused. Where several causes apply it is the one of the lowest number, but 19 before 16 and
-        /// 17; a file is judged in byte order. Later versions of the library may have more. A note that is too long to
-        /// be saved would have a field of wrong length, and is refused as one.
+        /// Why a call was refused. Where several causes apply it is the one of the lowest number, but 19 and 21 before
+        /// 16 and 17; a file is judged in byte order, and so is a grid, before the tree that is wanted for it. Later
+        /// versions of the library may have more. A note that is too long to be saved would have a field of wrong
+        /// length, and is refused as one.
         ///
         /// It shows its number and its words, also where `main` returns it.
         ///
@@ -42,8 +43,8 @@ macro_rules! refusals {
             ///
             /// assert_eq!(Refusal::of(12), Some(Refusal::FileEnds));
             /// assert_eq!(Refusal::of(0), None);
-            /// assert_eq!(Refusal::of(21), None); // no refusal of this version
-            /// assert!((1..=20).all(|n| Refusal::of(n).map(Refusal::number) == Some(n)));
+            /// assert_eq!(Refusal::of(22), None); // no refusal of this version
+            /// assert!((1..=21).all(|n| Refusal::of(n).map(Refusal::number) == Some(n)));
             /// ```
             pub fn of(number: u8) -> Option<Refusal> {
                 match number {
@@ -52,7 +53,7 @@ macro_rules! refusals {
                 }
             }
 
-            /// The refusal number, 1 to 20, or whatever a newer library gave.
+            /// The refusal number, 1 to 21, or whatever a newer library gave.
             ///
             /// ```
             /// use kiln::Refusal;
@@ -61,6 +62,7 @@ macro_rules! refusals {
             /// assert_eq!(Refusal::FileOutputShort.number(), 18);
             /// assert_eq!(Refusal::Slip.number(), 19);
             /// assert_eq!(Refusal::FileCount.number(), 20);
+            /// assert_eq!(Refusal::NoTable.number(), 21);
             /// ```
             pub fn number(self) -> u8 {
                 match self {
@@ -105,6 +107,7 @@ refusals! {
     18 FileOutputShort "file output shorter than the file"
     19 Slip "the slip is not the one that this table gives for the slip's own box and level"
     20 FileCount "count in a file differs from the tree's"
+    21 NoTable "no acceptable table over that tree has the grid's readings"
 }
 
 /// The refusal of any number that a call returned, [`Refusal::Unknown`] where it has no name here.
@@ -145,8 +148,8 @@ mod tests {
     use std::num::NonZeroU8;
 
     // The first column of document 01's table of causes, in the order of its numbers, and document 02's words for 18
-    // to 20.
-    const CAUSES: [&str; 20] = [
+    // to 21.
+    const CAUSES: [&str; 21] = [
         "a side of 0 or above 8",
         "tree not of the form above",
         "coefficient slice not of the total length",
@@ -167,6 +170,7 @@ mod tests {
         "file output shorter than the file",
         "the slip is not the one that this table gives for the slip's own box and level",
         "a count differs from the tree's",
+        "no acceptable table over that tree has those readings",
     ];
 
     fn of_any(number: u8) -> Refusal {
@@ -176,8 +180,9 @@ mod tests {
     #[test]
     fn each_number_has_the_words_of_its_cause() {
         for (number, words) in (1..).zip(CAUSES) {
-            // Away from the documents' text, "above" and "a count" say too little.
+            // Away from the documents' text, "above", "a count" and "those" say too little.
             let words = words.replace("form above", "form of a region tree").replace("a count", "count in a file");
+            let words = words.replace("those readings", "the grid's readings");
             assert_eq!(Refusal::of(number).map(Refusal::words), Some(&words[..]));
             assert_eq!(of_any(number).to_string(), format!("refused {number}: {words}"));
             assert_eq!(format!("{:?}", of_any(number)), format!("refused {number}: {words}"));
@@ -186,7 +191,7 @@ mod tests {
 
     #[test]
     fn a_number_without_a_name_is_an_error_value() {
-        for number in 21..=u8::MAX {
+        for number in 22..=u8::MAX {
             let refusal = of_any(number);
             assert_eq!(Refusal::of(number), None);
             assert_eq!(refusal, Refusal::Unknown { number });

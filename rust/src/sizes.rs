@@ -1,5 +1,5 @@
-//! The library's fixed numbers, how long a table's slices are, where in them a coefficient stands, and how many
-//! functions a file says are active.
+//! The library's fixed numbers, how long a table's slices and its grid are, where in the slices a coefficient stands,
+//! and how many functions a file says are active.
 
 /// D = 36 × 2^42: an exact reading of x watts has the numerator x × D.
 ///
@@ -70,6 +70,17 @@ pub const NOTE_BYTES: usize = 64;
 /// ```
 pub const FILE_BYTES: usize = 32_443;
 
+/// No grid is longer, in bytes.
+///
+/// ```
+/// use kiln::{grid_length, level_places, GRID_BYTES};
+///
+/// // Two heads of three bytes, two sides, and five bytes for each level 3 place of the largest sheet.
+/// assert_eq!(GRID_BYTES, 2 * 3 + 2 + 5 * level_places(8, 8, 3));
+/// assert_eq!(GRID_BYTES, grid_length(8, 8));
+/// ```
+pub const GRID_BYTES: usize = 22_453;
+
 /// The places of one level of a `w` by `h` sheet; 0 for a side that is not 1 to 8 or a level that is not 0 to 3.
 ///
 /// ```
@@ -96,6 +107,32 @@ pub fn level_places(w: usize, h: usize, level: usize) -> usize {
 /// ```
 pub fn places(w: usize, h: usize) -> usize {
     (0..=3).map(|level| level_places(w, h, level)).sum()
+}
+
+/// The length in bytes of the grid of a `w` by `h` sheet; 0 for a side that is not 1 to 8.
+///
+/// ```
+/// use kiln::{grid_length, Table};
+///
+/// assert_eq!(grid_length(2, 1), 2 * 3 + 2 + 5 * 19 * 11);
+/// assert_eq!(Table::fresh(2, 1, 700)?.to_grid().len(), grid_length(2, 1));
+/// assert_eq!(grid_length(2, 9), 0);
+/// # Ok::<(), kiln::Refusal>(())
+/// ```
+pub fn grid_length(w: usize, h: usize) -> usize {
+    match level_places(w, h, 3) {
+        0 => 0,
+        places => 3 + 2 + 3 + 5 * places,
+    }
+}
+
+// The places of the sheet of a file or a grid. One that is accepted has its sides in bytes 3 and 4; any other is
+// refused before the length of the output is judged.
+pub(crate) fn told_places(file: &[u8]) -> usize {
+    match file {
+        [_, _, _, w, h, ..] => places(usize::from(*w), usize::from(*h)),
+        _ => 0,
+    }
 }
 
 /// Where the coefficient of the function (`i`, `j`) of a level stands among those of a `w` by `h` sheet.

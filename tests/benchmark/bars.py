@@ -7,8 +7,8 @@ from __future__ import annotations
 from typing import Callable, Dict, List, NamedTuple
 
 from measure import AT_LEVEL, COMMIT, COMMIT_AT, ENQUIRE, ENQUIRE_AT, EXACT, LARGEST, LARGEST_FILE, LOADS, MEASURED
-from measure import READ, READ_UNCOUNTED, READINGS, SLOPES, SLOPES_2, UNREFINED, WATTS, WATTS_2, WRITES, Figures
-from measure import beyond_on, calls_on, counted_on, level_at, stacked_on, tables
+from measure import READ, READ_GRID, READ_UNCOUNTED, READINGS, SLOPES, SLOPES_2, UNREFINED, WATTS, WATTS_2, WRITES
+from measure import Figures, beyond_on, calls_on, counted_on, level_at, stacked_on, tables
 
 RATIO = 1.2
 CHECK = 150_000
@@ -61,7 +61,11 @@ READING_STACK = {"unrefined": 1_520, "fully split": 1_968, "all of level 3": 1_5
 OVER_WATTS = 1.15
 # Readings are taken at a point of level 0.
 READING = CHECK + BEYOND_AT_LEVEL[0]
+# Of reading a grid over its table's own tree, 8 by 8: unrefined, fully split and all of level 3.
+FROM_GRID = 1_500_000
 STACK = 8_192
+# Reading a grid keeps the numbers of levels 0 to 2, 1,707 of 8 bytes.
+FROM_GRID_STACK = 20_480
 CORNERS = 5.0
 
 
@@ -108,9 +112,19 @@ def beyond_at(level: int) -> Callable[[Figures], Dict[str, float]]:
                             for call, title in beyond_on(table).items() if level_at(t, call) == level}
 
 
+def from_grid(figures: Figures) -> Dict[str, float]:
+    """The instructions of a grid's conversion on the 8 by 8 tables."""
+    return {f"{MEASURED[READ_GRID]}, {table}": figures.library[table].counts[READ_GRID]
+            for table in (UNREFINED, LARGEST, LARGEST_FILE)}
+
+
 def stacks(figures: Figures) -> Dict[str, float]:
     return {f"{MEASURED[call]}, {table}": ours.stacks[call]
-            for table, ours in figures.library.items() for call in stacked_on(table)}
+            for table, ours in figures.library.items() for call in stacked_on(table) if call != READ_GRID}
+
+
+def grid_stacks(figures: Figures) -> Dict[str, float]:
+    return {f"{MEASURED[READ_GRID]}, {table}": ours.stacks[READ_GRID] for table, ours in figures.library.items()}
 
 
 def more_stack(figures: Figures) -> Dict[str, float]:
@@ -186,7 +200,10 @@ BARS = {
        for call, words in (("watts", "an f64 reading"), ("display", "a display"), ("cost", "a cost"))},
     "slopes": Bar("instructions of watts and slopes over those of an f64 reading at the same point", OVER_WATTS,
                   over_watts),
-    "stack": Bar("bytes of stack of a call", STACK, stacks),
+    "from a grid": Bar("instructions of reading a grid over its table's own tree, of each 8 by 8 table", FROM_GRID,
+                       from_grid),
+    "stack": Bar("bytes of stack of a call, but of reading a grid", STACK, stacks),
+    "grid stack": Bar("bytes of stack of reading a grid", FROM_GRID_STACK, grid_stacks),
     "reading stack": Bar("bytes of stack of a reading, beyond those before subdivision worked in one array", 0,
                          more_stack),
     "corners": Bar("instructions of the corner program over those of reading its file, the largest", CORNERS, corners),

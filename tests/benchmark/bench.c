@@ -1,7 +1,8 @@
-/* Makes each call once on a table, its files, with counts, without, and with counts and a note, that note, and points
-   to read at, given on standard input: of the library (PREFIX kiln_) or of plain C (plain_). Run as `bench count` under
-   callgrind it leaves one dump for each call, named like it; run as `bench stack` it prints the bytes of stack of each
-   call, as `bench time` the nanoseconds of each call. With names of calls after that it makes those calls only. */
+/* Makes each call once on a table, its files, with counts, without, and with counts and a note, that note, its full
+   grid, and points to read at, given on standard input: of the library (PREFIX kiln_) or of plain C (plain_). Run as
+   `bench count` under callgrind it leaves one dump for each call, named like it; run as `bench stack` it prints the
+   bytes of stack of each call, as `bench time` the nanoseconds of each call. With names of calls after that it makes
+   those calls only. */
 #include "plain.h"
 
 #include <pthread.h>
@@ -12,9 +13,9 @@
 #include <time.h>
 #include <valgrind/callgrind.h>
 
-static size_t w, h, tree_len, numbers_len, file_len, uncounted_len, with_note_len, note_len;
+static size_t w, h, tree_len, numbers_len, file_len, uncounted_len, with_note_len, note_len, grid_len;
 static uint8_t tree[1365], out[4489], tree_out[1365], file[32376], uncounted[32365], with_note[32443], note[64];
-static uint8_t file_out[32443];
+static uint8_t file_out[32443], grid[22453], grid_out[22453];
 static int64_t numbers[6196], numbers_out[6196];
 
 /* Where it reads: all readings at the first, the exact one at each, as f64 and with slopes at the last too. */
@@ -167,6 +168,15 @@ static unsigned write_noted(void) {
                           &amount);
 }
 
+static unsigned write_grid(void) {
+  return CALL(write_grid)(w, h, tree, tree_len, numbers, numbers_len, grid_out, sizeof grid_out, &amount);
+}
+
+/* Over the table's own tree. */
+static unsigned read_grid(void) {
+  return CALL(read_grid)(grid, grid_len, tree, tree_len, numbers_out, numbers_len, &wide, &high);
+}
+
 struct call {
   const char *name;
   unsigned (*make)(void);
@@ -180,6 +190,7 @@ static const struct call calls[] = {
   {"watts_2", watts_2}, {"slopes", slopes}, {"slopes_2", slopes_2},
   {"read_file", read_file}, {"read_uncounted", read_uncounted}, {"read_noted", read_noted},
   {"read_bench", read_bench}, {"bench_noted", bench_noted}, {"write_file", write_file}, {"write_noted", write_noted},
+  {"write_grid", write_grid}, {"read_grid", read_grid},
 };
 
 enum { CALLS = sizeof calls / sizeof *calls, DEPTH = 1 << 17, UNUSED = 0xA5 };
@@ -270,7 +281,7 @@ static bool get_points(void) {
   return scanf("%*s") == EOF;
 }
 
-/* Reads the table, its files, the note and the points. */
+/* Reads the table, its files, the note, the grid and the points. */
 static bool get_input(void) {
   if (scanf("%zu %zu %zu", &w, &h, &tree_len) != 3 || tree_len > sizeof tree) return false;
   if (!get_bytes(tree, tree_len)) return false;
@@ -278,7 +289,8 @@ static bool get_input(void) {
   for (size_t i = 0; i < numbers_len; i++)
     if (scanf("%ld", &numbers[i]) != 1) return false;
   return get_file(file, sizeof file, &file_len) && get_file(uncounted, sizeof uncounted, &uncounted_len)
-    && get_file(with_note, sizeof with_note, &with_note_len) && get_file(note, sizeof note, &note_len) && get_points();
+    && get_file(with_note, sizeof with_note, &with_note_len) && get_file(note, sizeof note, &note_len)
+    && get_file(grid, sizeof grid, &grid_len) && get_points();
 }
 
 int main(int argc, char **argv) {
@@ -295,6 +307,8 @@ int main(int argc, char **argv) {
     if (asked(&calls[k], names) && calls[k].make()) return 1;
   if (bench_noted() || noted != 1 || note_size != note_len) return 1;
   if (write_noted() || amount != with_note_len) return 1;
+  if (write_grid() || amount != grid_len || memcmp(grid_out, grid, grid_len)) return 1;
+  if (read_grid() || memcmp(numbers_out, numbers, numbers_len * sizeof *numbers)) return 1;
   if (!strcmp(argv[1], "stack"))
     for (int k = 0; k < CALLS; k++)
       if (asked(&calls[k], names)) printf("%s %zu\n", calls[k].name, depth(&calls[k]));

@@ -19,10 +19,11 @@ from measure import BEYONDS, CALLS, EXACT, EXACT_1, EXACT_2, LARGEST, LARGEST_FI
 from measure import READINGS, REFINING_BEYONDS, ROOT, SLOPES_BEYONDS, UNREFINED, Figures, Measured, all_figures
 from measure import calls_on, counted_on, point_of, stacked_on, table_names, tables
 
-PAGE, HEADER = ROOT / "docs/BENCHMARKS.md", ROOT / "include/kiln.h"
+PAGE, HEADERS = ROOT / "docs/BENCHMARKS.md", ROOT / "include"
 # What reads a file, what writes one, what reads at a point, and what gives slopes there, named here again.
 READ_BY = (READ, READ_UNCOUNTED, "read_noted", "read_bench", "bench_noted")
 WRITTEN = ("write_file", "write_noted")
+FROM_GRID, LARGE = "read_grid", (UNREFINED, LARGEST, LARGEST_FILE)
 BESIDE_EXACT = ("watts", "display", "cost")
 READ_AT_POINT = (EXACT, EXACT_1, EXACT_2, *BESIDE_EXACT)
 SLOPES_AT = ("slopes", "slopes_2")
@@ -80,7 +81,9 @@ def pushes() -> Iterator[Push]:
             lower = ("watts",) if call == "watts" else ("slopes",) if call in SLOPES_AT else (
                 ("enquiry first",) if call in ENQUIRED else ())
             yield "ratio", f"{MEASURED[call]}, {table}", partial(by_ratio, table, call, bars.RATIO), lower
-        for call in stacked_on(table):
+        yield "grid stack", f"{MEASURED[FROM_GRID]}, {table}", partial(
+            by_stack, table, FROM_GRID, bars.FROM_GRID_STACK), ()
+        for call in set(stacked_on(table)) - {FROM_GRID}:
             lower = ("reading stack",) if call in READ_AT_POINT else ()
             yield "stack", f"{MEASURED[call]}, {table}", partial(by_stack, table, call, bars.STACK), lower
             if lower:
@@ -121,7 +124,8 @@ def pushes() -> Iterator[Push]:
             *(("reading", LARGEST, call, bars.READING) for call in READINGS),
             *(("committing", LARGEST, call, bars.COMMITTING) for call in COMMITTED),
             *(("file reading", LARGEST_FILE, call, bars.FILE_READING) for call in READ_BY),
-            *(("file writing", LARGEST_FILE, call, bars.FILE_WRITING) for call in WRITTEN)):
+            *(("file writing", LARGEST_FILE, call, bars.FILE_WRITING) for call in WRITTEN),
+            *(("from a grid", table, FROM_GRID, bars.FROM_GRID) for table in LARGE)):
         lower = (call,) if call in BESIDE_EXACT else ("commit",) if call in COMMITTED else (
             () if call not in READ_BY else ("counts", "note") if call in (READ, READ_UNCOUNTED) else ("note",))
         yield name, f"{MEASURED[call]}, {table}", partial(by_count, table, call, bar), lower
@@ -163,8 +167,9 @@ def self_test() -> List[str]:
 
 
 def unmeasured() -> List[str]:
-    """Calls of the header that are not measured, and the other way round."""
-    declared = set(re.findall(r"^uint8_t kiln_(\w+)", HEADER.read_text(encoding="utf-8"), re.M))
+    """Calls of the headers that are not measured, and the other way round."""
+    declared = {call for header in HEADERS.glob("*.h")
+                for call in re.findall(r"^uint8_t kiln_(\w+)", header.read_text(encoding="utf-8"), re.M)}
     return [f"kiln_{call}: declared or measured, but not both" for call in sorted(declared ^ set(CALLS))]
 
 

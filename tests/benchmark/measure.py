@@ -18,8 +18,10 @@ ROOT = Path(__file__).resolve().parents[2]
 HERE, BUILT = ROOT / "tests/benchmark", ROOT / "target/staticlib"
 sys.path += [str(ROOT / "tests/evaluator"), str(ROOT / "tests/differential")]
 
+import grids
 import samples
 import tablefile
+from calls import surface_of
 from library import archive, corner_program
 from surface import QUARTERS_PER_CELL, STEPS_PER_CELL, total_places
 from tree import level_map
@@ -29,7 +31,8 @@ READINGS = {"exact": "Exact reading", "watts": "Reading as f64", "display": "Dis
 SLOPED = {"slopes": "Watts and slopes"}
 CALLS = {"table_cause": "Table check", "least_level": "Least level", "activity": "Activity", "fresh": "Fresh table",
          "set": "Set", "enquire": "Enquiry", "commit": "Commit", **READINGS, **SLOPED, "read_file": "File reading",
-         "read_bench": "Bench reading", "write_file": "File writing"}
+         "read_bench": "Bench reading", "write_file": "File writing", "write_grid": "Grid writing",
+         "read_grid": "Grid reading"}
 # What is measured: each call, those of files with counts and no note; the least level under the point's quarter square
 # too, the enquiry and the commit of it, the exact reading at two points more, that as f64 and watts and slopes at the
 # last of them, file reading without counts, and reading by both loaders and writing with a note.
@@ -41,6 +44,7 @@ AT_LEVEL = {EXACT_1: ", at a point of level 1 of a split table", EXACT_2: ", at 
 READ, READ_UNCOUNTED, READ_NOTED = "read_file", "read_uncounted", "read_noted"
 BENCH, BENCH_NOTED = "read_bench", "bench_noted"
 WRITE, WRITE_NOTED = "write_file", "write_noted"
+WRITE_GRID, READ_GRID = "write_grid", "read_grid"
 LOADS, WRITES = (READ, READ_UNCOUNTED, READ_NOTED, BENCH, BENCH_NOTED), (WRITE, WRITE_NOTED)
 MEASURED = {**CALLS, LEAST_AT: "Least level, under a point", ENQUIRE_AT: "Enquiry, of one quarter square",
             COMMIT_AT: "Commit, of one quarter square",
@@ -48,7 +52,7 @@ MEASURED = {**CALLS, LEAST_AT: "Least level, under a point", ENQUIRE_AT: "Enquir
             WATTS_2: READINGS[WATTS] + AT_LEVEL[EXACT_2], SLOPES_2: SLOPED[SLOPES] + AT_LEVEL[EXACT_2],
             READ_UNCOUNTED: "File reading, without counts", READ_NOTED: "File reading, with a note",
             BENCH_NOTED: "Bench reading, with a note", WRITE_NOTED: "File writing, with a note"}
-OF_FILES = LOADS + WRITES
+OF_FILES, OF_GRIDS = LOADS + WRITES, (WRITE_GRID, READ_GRID)
 # The longest note.
 NOTE = bytes(range(64, 128))
 # What an exact reading, and watts and slopes, take beyond the table check, by the call; and the point of each exact
@@ -107,8 +111,8 @@ def table_names() -> Tuple[str, ...]:
 
 
 def calls_on(table: str) -> Tuple[str, ...]:
-    """The calls that are measured on a table: of that of the largest file only file reading and writing."""
-    return OF_FILES if table == LARGEST_FILE else tuple(MEASURED)
+    """The calls that are measured on a table: of that of the largest file only those of files and of grids."""
+    return OF_FILES + OF_GRIDS if table == LARGEST_FILE else tuple(MEASURED)
 
 
 def beyond_on(table: str) -> Dict[str, str]:
@@ -136,7 +140,7 @@ def counted_on(table: str) -> Tuple[str, ...]:
 
 def stacked_on(table: str) -> Tuple[str, ...]:
     """The calls whose stack is measured on a table: its calls, and on that of the largest file those at a point too."""
-    return (*OF_FILES, *READINGS, *SLOPED) if table == LARGEST_FILE else calls_on(table)
+    return (*calls_on(table), *READINGS, *SLOPED) if table == LARGEST_FILE else calls_on(table)
 
 
 def point_of(t: samples.Table, call: str) -> Tuple[int, int]:
@@ -152,15 +156,17 @@ def level_at(t: samples.Table, call: str) -> int:
 
 
 def file_of(t: samples.Table, call: str) -> bytes:
-    """The file that a call of files reads or writes."""
+    """The file that a call of files reads or writes; of a call of grids the grid."""
+    if call in OF_GRIDS:
+        return grids.grid_bytes(t.w, t.h, grids.carried_numbers(surface_of(*t[:3]), t.coefficients))
     noted = call in (READ_NOTED, BENCH_NOTED, WRITE_NOTED)
     return tablefile.write_file(*t, counted=call != READ_UNCOUNTED, note=NOTE if noted else None)
 
 
 def told(t: samples.Table) -> str:
-    """A table, its files, with counts, without, and with counts and a note, the note, and the points to read at, as the
-    program reads them."""
-    files = [*(file_of(t, call) for call in (READ, READ_UNCOUNTED, READ_NOTED)), NOTE]
+    """A table, its files, with counts, without, and with counts and a note, the note, its grid, and the points to read
+    at, as the program reads them."""
+    files = [*(file_of(t, call) for call in (READ, READ_UNCOUNTED, READ_NOTED)), NOTE, file_of(t, WRITE_GRID)]
     return " ".join(map(str, [t.w, t.h, len(t.tree), *t.tree, len(t.coefficients), *t.coefficients,
                               *(part for file in files for part in (len(file), *file)),
                               *(steps for call in POINTS for steps in point_of(t, call))]))

@@ -47,5 +47,9 @@ uint8_t CALL(read_bench)(const uint8_t *file, size_t file_len, uint8_t *tree_out
 uint8_t CALL(write_file)(size_t w, size_t h, const uint8_t *tree, size_t tree_len, const int64_t *numbers,
                          size_t numbers_len, uint8_t noted, const uint8_t *note, size_t note_len, uint8_t *file_out,
                          size_t file_out_len, size_t *length);
+uint8_t CALL(write_grid)(size_t w, size_t h, const uint8_t *tree, size_t tree_len, const int64_t *numbers,
+                         size_t numbers_len, uint8_t *grid_out, size_t grid_out_len, size_t *length);
+uint8_t CALL(read_grid)(const uint8_t *grid, size_t grid_len, const uint8_t *tree, size_t tree_len,
+                        int64_t *numbers_out, size_t numbers_out_len, size_t *w, size_t *h);
 
 #endif

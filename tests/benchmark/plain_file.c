@@ -1,42 +1,14 @@
 /* File reading in plain C: the file is judged whole in byte order first, then the outputs are written. */
-#include "plain_inside.h"
+#include "plain_fields.h"
 
 /* The sides' field is the first, so that the tree's body is at 8. */
 enum { TREE_AT = HEAD + SIDES_BYTES, TREE_BODY = TREE_AT + HEAD };
-
-struct file {
-  const uint8_t *bytes;
-  size_t len;
-};
 
 /* The part of a file that its note is; all 0 where none stands there. */
 struct note {
   uint8_t stands;
   size_t offset, length;
 };
-
-/* The length in the head that stands at a position. */
-static inline size_t length_at(const uint8_t *head) {
-  return (size_t)head[1] << 8 | head[2];
-}
-
-/* The field due at a position, its length between two bounds: `end` receives the position after its body. */
-static uint8_t field_at(const struct file *file, size_t at, uint8_t tag, size_t low, size_t high, size_t *end) {
-  size_t left = file->len - at;
-  if (left < HEAD) return FILE_ENDS;
-  if (file->bytes[at] != tag) return BAD_TAG;
-  size_t n = length_at(file->bytes + at);
-  if (n < low || n > high) return BAD_FIELD;
-  if (left < HEAD + n) return FILE_ENDS;
-  *end = at + HEAD + n;
-  return 0;
-}
-
-/* Five bytes, two's complement, high byte first. */
-static inline int64_t number_at(const uint8_t *at) {
-  int64_t n = (int64_t)at[0] << 32 | (int64_t)at[1] << 24 | (int64_t)at[2] << 16 | (int64_t)at[3] << 8 | at[4];
-  return n < (int64_t)1 << 39 ? n : n - ((int64_t)1 << 40);
-}
 
 /* How many of the first n functions of a word are marked, of which one stands at every e-th place. */
 static inline size_t count_word(uint64_t word, size_t e, size_t n) {

@@ -1,25 +1,6 @@
 /* File writing in plain C: the table and the note are checked, the file's length is found from the active counts, then
    the fields are written one after another, the counts among them and the note last. */
-#include "plain_inside.h"
-
-/* Writes a field's head, and returns the position after it. */
-static inline uint8_t *put_head(uint8_t *to, size_t tag, size_t n) {
-  to[0] = (uint8_t)tag;
-  to[1] = (uint8_t)(n >> 8);
-  to[2] = (uint8_t)n;
-  return to + HEAD;
-}
-
-/* Writes five bytes, two's complement, high byte first, and returns the position after them. */
-static inline uint8_t *put_number(uint8_t *to, int64_t number) {
-  uint64_t n = (uint64_t)number;
-  to[0] = (uint8_t)(n >> 32);
-  to[1] = (uint8_t)(n >> 24);
-  to[2] = (uint8_t)(n >> 16);
-  to[3] = (uint8_t)(n >> 8);
-  to[4] = (uint8_t)n;
-  return to + NUMBER_BYTES;
-}
+#include "plain_put.h"
 
 /* Writes the field of the active counts, two bytes each, high byte first, and returns the position after it. */
 static inline uint8_t *put_counts(uint8_t *to, const size_t counts[LEVELS]) {

@@ -15,7 +15,7 @@ from typing import Dict, List
 sys.dont_write_bytecode = True
 
 import bars
-from measure import BEYONDS, CALLS, LARGEST_FILE, MEASURED, OF_FILES, READ, REFINING_BEYONDS, ROOT, SLOPES_2
+from measure import BEYONDS, CALLS, LARGEST_FILE, MEASURED, OF_FILES, OF_GRIDS, READ, REFINING_BEYONDS, ROOT, SLOPES_2
 from measure import SLOPES_BEYONDS, Figures, Measured, all_figures, file_of, tables
 
 
@@ -44,7 +44,7 @@ def paragraphs() -> List[str]:
         "check and the stack of readings also where all is of level 3; the tariff is 1,500; the file that is read and "
         "written is the table's, with its counts and no note; it is read without the counts too, and read by both "
         "loaders and written with a note of 64 bytes. The largest is that of 8 by 8 with the tree 3, 22,445 bytes of "
-        "coefficients. "
+        "coefficients. The grid that is written is the table's, and it is read over the table's own tree. "
         "Callgrind counts each repetition of a rep instruction, so on both sides memory is filled and copied without. "
         "No call allocates.",
     ]
@@ -67,8 +67,8 @@ def bar_table(figures: Figures) -> List[str]:
 
 
 def call_table(call: str, title: str, figures: Figures) -> List[str]:
-    of_file = call in OF_FILES
-    bytes_of = "file" if of_file else "tree"
+    of_file = call in OF_FILES + OF_GRIDS
+    bytes_of = "file" if call in OF_FILES else "grid" if of_file else "tree"
     head = f"| table | {bytes_of} bytes | library | C | ratio |"
     timed = call in MEASURED
     if timed:

@@ -1,5 +1,5 @@
-"""Fixed cases: document 01's bench sheet, two faults at once, edges, table files, and whole grids around lists of
-enquiries and commits; then all that was seen in them saved and loaded again."""
+"""Fixed cases: document 01's bench sheet, two faults at once, edges, table files, full grids, and lists of enquiries
+and commits with every point of a sheet read around them; then all that was seen in them saved and loaded again."""
 from __future__ import annotations
 
 from functools import partial
@@ -11,6 +11,7 @@ import costs
 import counted_files
 import edges
 import files
+import fixed_grids
 import insertions
 import noted_files
 import quarter_levels
@@ -267,7 +268,7 @@ def faults(lib: Library, seed: int, grids: bool) -> List[str]:
     found += quarter_levels.fixed(lib) + costs.fixed(lib) + slopes.fixed(lib) + slips.fixed(lib)
     if grids:
         found += whole_grids(Random(seed), lib)
-    for part in (edges, files, counted_files, noted_files):
+    for part in (edges, files, counted_files, noted_files, fixed_grids):
         found += part.fixed(Random(seed), lib)
     found += saving.again(lib)
     return [fault for fault in found if fault]

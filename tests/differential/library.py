@@ -336,3 +336,14 @@ class Library:
         """Where noted is 0 the note is none, whatever is lent in its place. The scalar receives the file's length."""
         return self._taken("write_file", w, h, tree, values, octet(noted), octets([]) if note is None else note,
                            file_out, Scalar("Q", SIZE_BEFORE))
+
+    def write_grid(self, w: int, h: int, tree: Lent, values: Lent, grid_out: Lent) -> Answer:
+        """The scalar receives the grid's length."""
+        return self._taken("write_grid", w, h, tree, values, grid_out, Scalar("Q", SIZE_BEFORE))
+
+    def read_grid(self, grid: Lent, tree: Lent, numbers_out: Lent) -> Answer:
+        """The scalars receive the sides; a grid that is accepted makes a table over the tree that was lent."""
+        got = self._call("read_grid", grid, tree, numbers_out, *(Scalar("Q", SIZE_BEFORE) for _ in range(2)))
+        if not got.cause:
+            self.see(*got.said()[1:], tree.given, numbers_out.contents())
+        return got

@@ -20,6 +20,7 @@ from time import monotonic, sleep
 from traceback import print_exc
 from typing import Callable, Dict, Iterator, List, Tuple
 
+import converting
 import costs
 import demands
 import files
@@ -43,7 +44,7 @@ Begun = Callable[[int], None]
 
 KINDS: Dict[str, Callable[[Random, Library], Iterator[str]]] = {
     **tables.KINDS, **costs.KINDS, **insertions.KINDS, **same_regions.KINDS, **files.KINDS, **saving.KINDS,
-    **demands.KINDS}
+    **converting.KINDS, **demands.KINDS}
 # Kinds that hold readings to each other, to a range or to the coefficients, or tables to each other, do not count.
 UNCOUNTED = {*same_regions.KINDS, *demands.KINDS}
 

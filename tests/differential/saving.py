@@ -1,6 +1,6 @@
 """Tables saved to files with a note or none, held to the unrelated evaluator; and of every case what was seen in it:
-each table is saved and loaded again, with its counts and without, and each file that loaded is saved again, as either
-loader leaves it.
+each table is saved and loaded again, with its counts and without, and converted to its grid and back, and each file
+that loaded is saved again, as either loader leaves it.
 """
 from __future__ import annotations
 
@@ -13,6 +13,7 @@ import cases
 import notes
 import tablefile
 from cases import calls, quadtree, samples
+from grids import grid_length
 from library import Held, Library, Seen, differ, numbers, octets
 from notes import NONE, LentNote
 from tablefile import GREATEST_FILE
@@ -111,6 +112,18 @@ def _table_again(lib: Library, table: Held) -> str:
     return fault
 
 
+def _grid_again(lib: Library, table: Held) -> str:
+    """"every acceptable table converts", and its grid comes back over its own tree as the table that it was."""
+    w, h, tree, values = table
+    words, length = f"table {w} {h} {tree.hex()}, converted", grid_length(w, h)
+    grid_out, numbers_out = octets(ROOM[:length + 1]), numbers(ROOM[:len(values)])
+    got = lib.write_grid(w, h, octets(tree), numbers(values), grid_out)
+    grid = grid_out.contents()[:length]
+    fault = differ(words, got, ("ok", length), (grid_out, grid + ROOM[length:length + 1]))
+    return fault or differ(f"{words} and back", lib.read_grid(octets(grid), octets(tree), numbers_out), ("ok", w, h),
+                           (numbers_out, values))
+
+
 def _file_again(lib: Library, file: bytes, table: Held) -> str:
     """"saving what was loaded reproduces the bytes only of files that had it": others get the evaluator's counts after
     the tree. "Saving after the bench loader keeps it; after the controller's loader the note is gone": the note."""
@@ -131,7 +144,7 @@ def again(lib: Library) -> Iterator[str]:
     seen, kind = lib.seen or Seen(), lib.kind
     lib.seen, lib.kind = None, AGAIN
     try:
-        yield from filter(None, (_table_again(lib, table) for table in seen.tables))
+        yield from filter(None, (_table_again(lib, table) or _grid_again(lib, table) for table in seen.tables))
         yield from filter(None, (_file_again(lib, *one) for one in seen.files.items()))
     finally:
         lib.seen, lib.kind = Seen(), kind

@@ -62,6 +62,8 @@ static uint8_t make(const char *name) {
     return kiln_read_bench(B(0), OUT(1), OUT(2), ONE(3), ONE(4), ONE(5), ONE(6), ONE(7), ONE(8));
   }
   if (IS(write_file)) return kiln_write_file(N(0), N(1), B(2), Q(3), NOTE(4), OUT(6), ONE(7));
+  if (IS(write_grid)) return kiln_write_grid(N(0), N(1), B(2), Q(3), OUT(4), ONE(5));
+  if (IS(read_grid)) return kiln_read_grid(B(0), B(1), OUT(2), ONE(3), ONE(4));
   exit(3);
 }
 

@@ -16,6 +16,10 @@ import cost_cases
 import enquiries
 import file_cases
 import full_grids
+import grid_cases
+import grid_misreadings
+import grid_properties
+import grid_write_misreadings
 import level_cases
 import note_cases
 import note_misreadings
@@ -308,6 +312,9 @@ GROUPS = [
     ("slips and enquiries", slip_cases.slips),
     ("commits", slip_cases.commits),
     ("pairs of tables that read alike", uniqueness_cases.pairs),
+    ("grids and their tables", grid_cases.converted),
+    ("grids of tables", grid_cases.writing),
+    ("refusals of both converters", grid_cases.refusals),
     ("table files", file_cases.files),
     ("counts in a file", file_cases.counts),
     ("counts and other causes", file_cases.counts_in_order),
@@ -340,6 +347,11 @@ GROUPS = [
     ("coefficients after lists, told by readings before", uniqueness_properties.carried),
     ("lists that end with the same regions", uniqueness_properties.lists),
     ("full grids", full_grids.grids),
+    ("grids and back", grid_properties.there_and_back),
+    ("readings of grids", grid_properties.readings),
+    ("grids over finer trees", grid_properties.finer_trees),
+    ("tables of grids by readings", grid_properties.same_by_readings),
+    ("linearity of grids", grid_properties.linearity),
     ("saving and loading", properties.saving),
     ("saving what was loaded", properties.saving_again),
     ("files of one table", saved_files.files_of_a_table),
@@ -355,6 +367,8 @@ GROUPS = [
     ("misreadings of slips, enquiries and commits", slip_misreadings.slip_misreadings),
     ("misreadings of what readings tell", uniqueness_misreadings.told_misread),
     ("functions that are refined away", uniqueness_misreadings.refined_away),
+    ("misreadings of the converter from a grid", grid_misreadings.reading_misreadings),
+    ("misreadings of the converter towards the grid", grid_write_misreadings.writing_misreadings),
     ("misreadings of saving", saved_files.saving_misreadings),
     ("misreadings of a note that is read", note_misreadings.loading_misreadings),
     ("misreadings of a note that is saved", note_misreadings.writing_misreadings),

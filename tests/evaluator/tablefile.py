@@ -154,7 +154,7 @@ class Refused(Exception):
         self.number = number
 
 
-class _Reader:
+class Reader:
     """Document 01, Calls: 'judged in byte order: whole head, tag, length, whole body, contents'."""
 
     def __init__(self, file: bytes) -> None:
@@ -182,7 +182,7 @@ class _Reader:
 
 
 # Document 01, The table file: the coefficients of one level's body, judged against the limit.
-def _level_coefficients(body: bytes, level: int) -> List[int]:
+def level_coefficients(body: bytes, level: int) -> List[int]:
     numbers = [
         int.from_bytes(body[at : at + COEFFICIENT_BYTES], "big", signed=True)
         for at in range(0, len(body), COEFFICIENT_BYTES)
@@ -194,7 +194,7 @@ def _level_coefficients(body: bytes, level: int) -> List[int]:
 
 # Document 02, Eight: what may follow tag 19. 'After tag 19 a byte other than 32 is 15', however few bytes are left;
 # with 32 it is a field like the others, of '0 to 64 bytes'.
-def _note_part(reader: _Reader) -> NotePart:
+def _note_part(reader: Reader) -> NotePart:
     if reader.file[reader.at : reader.at + 1] != bytes([TAG_NOTE]):
         return NO_PART
     offset = reader.at + HEAD
@@ -202,7 +202,7 @@ def _note_part(reader: _Reader) -> NotePart:
 
 
 def _content(file: bytes) -> Tuple[Content, NotePart]:
-    reader = _Reader(file)
+    reader = Reader(file)
     w, h = reader.body(TAG_SIDES, SIDES_BYTES, SIDES_BYTES)
     if not (side_allowed(w) and side_allowed(h)):
         raise Refused(1)
@@ -220,7 +220,7 @@ def _content(file: bytes) -> Tuple[Content, NotePart]:
     for level in LEVELS:
         functions = surface.active_functions(level)
         length = COEFFICIENT_BYTES * len(functions)
-        numbers = _level_coefficients(reader.body(TAG_LEVEL_0 + level, length, length), level)
+        numbers = level_coefficients(reader.body(TAG_LEVEL_0 + level, length, length), level)
         for (i, j), number in zip(functions, numbers):
             coefficients[surface.place(level, i, j)] = number
     note = _note_part(reader)

@@ -1,4 +1,4 @@
-/* Makes every call of include/kiln.h on document 01's bench sheet, refused ones included.
+/* Makes every call of include/kiln.h and kiln_grid.h on document 01's bench sheet, refused ones included.
    Prints a line for each thing that is not as the bench sheet says, and a count at the end. */
 #include "kiln.h"
 #include "held.h"
@@ -334,6 +334,40 @@ static void files_written(void) {
   HELD(!memcmp(out + 9, fine_counts, 11) && !memcmp(out + 32, limits, 10) && out[42] == 255 && out[22476] == 255);
 }
 
+/* Document 02, "The full-grid dialect": S rises by 125 watts from column to column of level 3, which is 32,768,000 of
+   1/64^3 watt, and column -2 is its zero. Its grid is read as S and as S with level 1; with the last number one more
+   there is such a table over neither tree. A refused call leaves what it was lent. */
+static void grid_of_s(void) {
+  static const uint8_t heads[8] = {1, 0, 2, 1, 1, 19, 2, 93};
+  uint8_t grid[613];
+  size_t w = 7, h = 7;
+  memcpy(grid, heads, 8);
+  for (size_t k = 0; k < 121; k++)
+    for (size_t b = 0; b < 5; b++)
+      grid[8 + 5 * k + b] = (uint8_t)((uint64_t)(32768000 * ((int64_t)(k % 11) - 1)) >> (8 * (4 - b)));
+  memset(out, 9, sizeof out);
+  length = 7;
+  HELD(kiln_grid_length(1, 1) == 613 && kiln_grid_length(8, 8) == KILN_GRID_BYTES && kiln_grid_places(grid, 8) == ONE);
+  HELD(kiln_write_grid(1, 9, flat, 1, s, ONE, out, 612, &length) == KILN_SIDE);
+  HELD(kiln_write_grid(1, 1, flat, 1, s, ONE - 1, out, 612, &length) == KILN_NUMBERS_LENGTH);
+  HELD(kiln_write_grid(1, 1, flat, 1, s, ONE, out, 612, &length) == KILN_FILE_OUTPUT_SHORT && length == 7 && nines(0));
+  HELD(kiln_write_grid(1, 1, flat, 1, s, ONE, out, 613, &length) == KILN_DONE);
+  HELD(length == 613 && !memcmp(out, grid, 613) && nines(613));
+  HELD(kiln_write_grid(1, 1, level_1, 13, fine, ONE, out, 613, &length) == KILN_DONE && !memcmp(out, grid, 613));
+  memset(more, 9, sizeof more);
+  HELD(kiln_read_grid(grid, 612, split, 5, more, 0, &w, &h) == KILN_FILE_ENDS);
+  HELD(kiln_read_grid(grid, 613, split, 5, more, 0, &w, &h) == KILN_TREE);
+  HELD(kiln_read_grid(grid, 613, flat, 1, more, ONE - 1, &w, &h) == KILN_OUTPUT_LENGTH);
+  grid[612]++;
+  HELD(kiln_read_grid(grid, 613, flat, 1, more, ONE, &w, &h) == KILN_NO_TABLE);
+  HELD(kiln_read_grid(grid, 613, level_1, 13, more, 0, &w, &h) == KILN_NO_TABLE);
+  grid[612]--;
+  HELD(w == 7 && h == 7 && !memcmp(more, more + 1, sizeof more - sizeof *more) && *(uint8_t *)more == 9);
+  HELD(kiln_read_grid(grid, 613, flat, 1, more, ONE, &w, &h) == KILN_DONE);
+  HELD(w == 1 && h == 1 && !memcmp(more, s, sizeof s));
+  HELD(kiln_read_grid(grid, 613, level_1, 13, more, ONE, &w, &h) == KILN_DONE && !memcmp(more, fine, sizeof fine));
+}
+
 int main(void) {
   sheet_s();
   slopes_of_s();
@@ -348,5 +382,6 @@ int main(void) {
   note_of_s();
   no_note_of_s();
   files_written();
+  grid_of_s();
   return all_held("calls from C");
 }

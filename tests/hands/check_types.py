@@ -84,7 +84,7 @@ C = Language(
     [(r"\bsize_t\b", "int64_t"), (r"\bint64_t\b", "size_t"), (r"\bint64_t\b", "int32_t"), (r"\buint8_t\b", "int8_t"),
      (r"\bdouble\b", "float"), (r"\bdouble\b", "int64_t"), (r"\bconst ", ""), (r"(?<!const )\b(?=\w+ \*)", "const "),
      (r"\*", ""), (r"\bsize_t w,\s*size_t h\b", "size_t h, size_t w"),
-     (r"\bsize_t u,\s*size_t v\b", "size_t v, size_t u"),
+     (r"\bsize_t u,\s*size_t v\b", "size_t v, size_t u"), (r"\*w,\s*size_t \*h\b", "*h, size_t *w"),
      (r"\*note_offset,\s*size_t \*note_length\b", "*note_length, size_t *note_offset"),
      (r"\*least,\s*uint8_t \*greatest\b", "*greatest, uint8_t *least"),
      (r"\*along_u,\s*double \*along_v\b", "*along_v, double *along_u"),
@@ -99,6 +99,7 @@ RUST = Language(
     [(r"\busize\b", "i64"), (r"\bi64\b", "usize"), (r"\bi64\b", "i32"), (r"\bu8\b", "i8"), (r"\bf64\b", "f32"),
      (r"\bf64\b", "i64"), (r"\*const\b", "*mut"), (r"\*mut\b", "*const"), (r"\*(?:const|mut) ", ""),
      (r"\bw: usize, h: usize\b", "h: usize, w: usize"), (r"\bu: usize,\s*v: usize\b", "v: usize, u: usize"),
+     (r"\bw: \*mut usize,\s*h\b", "h: *mut usize, w"),
      (r"\bnote_offset: \*mut usize,\s*note_length\b", "note_length: *mut usize, note_offset"),
      (r"\bleast: \*mut u8,\s*greatest\b", "greatest: *mut u8, least"),
      (r"\balong_u: \*mut f64,\s*along_v\b", "along_v: *mut f64, along_u"),
@@ -113,7 +114,7 @@ LIBRARY = Language(
     [(r"\busize\b", "i64"), (r"\bi64\b", "usize"), (r"\bu8\b", "i8"), (r"\bf64\b", "i64"), (r"&mut ", "&"),
      (r"&(?=\[)", "&mut "), (r"\[(?=\w+\])|(?<=\w)\]", ""), (r"; 4", ""), (r"; 4", "; 5"),
      (r"\bw: usize,\s*h: usize\b", "h: usize, w: usize"),
-     (r"\bu: usize,\s*v: usize\b", "v: usize, u: usize"),
+     (r"\bu: usize,\s*v: usize\b", "v: usize, u: usize"), (r"\bw: &mut usize,\s*h\b", "h: &mut usize, w"),
      (r"\bnote_offset: &mut usize,\s*note_length\b", "note_length: &mut usize, note_offset"),
      (r"\bleast: &mut u8,\s*greatest\b", "greatest: &mut u8, least"),
      (r"\balong_u: &mut f64,\s*along_v\b", "along_v: &mut f64, along_u"),
@@ -167,7 +168,7 @@ def exported(archive: str) -> List[str]:
 
 
 def main(archive: str) -> int:
-    sources = [("include/kiln.h", C, [ROOT / "include/kiln.h"]), ("the Rust crate", RUST, [rust_source()]),
+    sources = [("include/", C, sorted((ROOT / "include").glob("*.h"))), ("the Rust crate", RUST, [rust_source()]),
                ("the library", LIBRARY, sorted((ROOT / "crates/kiln/src").glob("*.rt")))]
     bare = {whose: "\n".join(language.bare(path.read_text(encoding="utf-8")) for path in paths)
             for whose, language, paths in sources}

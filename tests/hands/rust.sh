@@ -37,8 +37,9 @@ passed() {
 }
 
 # The raw calls take nothing from the files above them, and no other file may have unsafe code.
-if grep -n 'crate::' rust/src/ffi.rs; then fail "ffi.rs uses another file"; fi
-[ "$(grep -l 'allow(unsafe_code)' rust/src/*.rs)" = rust/src/ffi.rs ] || fail "another file allows unsafe code"
+if grep -rn 'crate::' rust/src/ffi.rs rust/src/ffi; then fail "ffi.rs uses another file"; fi
+[ "$(grep -rl 'allow(unsafe_code)' rust/src)" = rust/src/ffi.rs ] || fail "another file allows unsafe code"
+[ "$(grep -rlw unsafe rust/src)" = rust/src/ffi.rs ] || fail "another file has unsafe code"
 grep -q '^#!\[deny(unsafe_code)\]' rust/src/lib.rs || fail "unsafe code is not denied"
 
 in_crate test --offline --locked || fail "a test fails" "$log"
@@ -116,6 +117,7 @@ around=$(python3 tests/hands/around.py "$examples/around") || fail "around diffe
 python3 tests/hands/check_dot.py --rust "$examples/dot" >"$room/dot" || fail "dot differs" "$room/dot"
 python3 tests/hands/check_arrow.py --rust "$examples/arrow" >"$room/arrow" || fail "arrow differs" "$room/arrow"
 python3 tests/hands/check_slip.py --rust "$examples/slip" >"$room/slip" || fail "slip differs" "$room/slip"
+python3 tests/hands/check_grid.py --rust "$examples/grid" >"$room/grid" || fail "grid differs" "$room/grid"
 
 # A copy of the crate with nothing beside it: no archive, no tables.
 apart=$room/apart
@@ -156,4 +158,4 @@ missing_is_told "after one with it"
 
 echo "hands: Rust crate: $tests tests and $doc_tests doc tests passed, $layout, $lints;" \
   "examples as expected on ${#files[@]} files; $around; $(cat "$room/dot"); $(cat "$room/arrow");" \
-  "$(cat "$room/slip"); archive found where KILN_LIB_DIR says"
+  "$(cat "$room/slip"); $(cat "$room/grid"); archive found where KILN_LIB_DIR says"

@@ -1,5 +1,6 @@
 /* Makes every call of include/kiln_table.h on document 01's bench sheet, refused ones included, and each beside the
-   plain call of kiln.h on a refined table, at many points and boxes; enquiries and commits alone are made by slips.c.
+   plain call of kiln.h on a refined table, at many points and boxes; enquiries and commits alone are made by slips.c,
+   and grids by grids.c.
    Prints a line for each thing that is not as due, and a count at the end. */
 #include "kiln_table.h"
 #include "boxes.h"

@@ -23,8 +23,9 @@ LINES = {
     "Words of document 02": ("definition", "theorem", "test", "must-fail"),
     "Misreadings and wrong programs": ("must-fail", "refused by"),
     "Wrong programs of document 02's requests": ("must-fail", "refused by"),
+    "Wrong programs of the full-grid dialect": ("must-fail", "refused by"),
 }
-REFUSALS = range(1, 21)
+REFUSALS = range(1, 22)
 
 
 def declares(text: str, name: str, kind: str) -> bool:
