@@ -8,7 +8,7 @@
    ./grid tables/kiln-fitted-near-top-heat.table fitted.grid tables/kiln-unrefined.table
 
    The table of the first two lines is a refined copy of the unrefined one, so that both have the same grid. The
-   fitted one bends where the unrefined one has no functions, and the last line is refused with 21.
+   fitted one bends where the unrefined one has no small cells, and the last line is refused with 21.
 
    Exits with 0, or with the refusal number, which is shown with its words; with 255 where the arguments are too few or
    too many, a file can't be read or written or the output can't be. */

@@ -8,7 +8,7 @@
      There are six, in one folder. This one includes kiln_sizes.h, the fixed numbers and the lengths of slices,
      kiln_refusal.h, the refusal numbers and their words, and kiln_grid.h, the two calls for plain bicubic grids.
      kiln_table.h has the same calls with a table, a box and a slip in structs, and kiln_arrow.h an arrow for the
-     display. The calls are proved; the static inline functions of all six headers are plain C, which is tested and not
+     display. The calls are proved; the static inline functions in the headers are plain C, which is tested and not
      proved.
 
    Answers

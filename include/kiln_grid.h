@@ -2,9 +2,10 @@
    C++. kiln.h includes this header, and says what holds of every call and what a table is: a program need not name it.
 
    Kiln makers whose tables have other regions, or none, exchange grids: the sheet and every coefficient of the surface
-   at level 3, wherever a table is refined. A grid has two fields of a table file and no other: tag 1, W and H, a byte
-   each; tag 19, (8*W + 3)*(8*H + 3) numbers in the order of a level's coefficients, five bytes each, two's complement,
-   high byte first. Each is a whole number of 1/64^3 watt, at most 32,000*64^3 in size. The grid's reading at a point
+   at level 3, where a table is refined and where it is not. A grid has two fields, each with a tag and a length as a
+   table file's (kiln_read_file), and no other: tag 1, W and H, a byte each; tag 19, every number of level 3, active or
+   not, (8*W + 3)*(8*H + 3) in the order of a level's coefficients, five bytes each, two's complement, high byte first.
+   Each is a whole number of 1/64^3 watt, at most 32,000*64^3 in size. The grid's reading at a point
    is what the numbers times the level 3 functions add up to there.
 
    Both calls are new in 0.9.0, and no other call moved. A program that makes and reads no grids need not change, nor
@@ -47,8 +48,8 @@ uint8_t kiln_write_grid(size_t w, size_t h, const uint8_t *tree, size_t tree_len
    sides or 4 for a number past its limit, and last 15 for any byte after the two fields. So a table file is refused
    with 13, for its tree, and a grid with a note after it with 15. 21 is for a grid whose readings no acceptable table
    over that tree has: a number bends the surface where the tree is too coarse for it, or a coefficient would not be
-   whole, or be past its limit. Over a tree with the whole sheet at level 3 it does not occur, and the coefficients are
-   the grid's numbers. A refusal leaves numbers_out, w and h as they were.
+   whole, or be past its limit. Over a tree with the whole sheet at level 3 it does not occur: the coefficients of level
+   3 are the grid's numbers, and all others are 0. A refusal leaves numbers_out, w and h as they were.
 
    This call takes up to 20 KiB of stack. */
 uint8_t kiln_read_grid(const uint8_t *grid, size_t grid_len, const uint8_t *tree, size_t tree_len,

@@ -7,7 +7,7 @@
 //!     cargo run --example grid ../tables/kiln-fitted-near-top-heat.table fitted.grid ../tables/kiln-unrefined.table
 //!
 //! The table of the first two lines is a refined copy of the unrefined one, so that both have the same grid. The
-//! fitted one bends where the unrefined one has no functions, and the last line is refused with 21.
+//! fitted one bends where the unrefined one has no small cells, and the last line is refused with 21.
 use kiln::{level_places, QuarterBox, Refusal, Table};
 use std::error::Error;
 use std::fs;

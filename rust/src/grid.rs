@@ -5,10 +5,11 @@ use crate::sizes::{told_places, GRID_BYTES};
 use crate::table::Table;
 
 impl Table {
-    /// The bytes of this table's grid: the sheet, and every coefficient of the surface at level 3, wherever the table
-    /// is refined. It has two fields of a table file and no other: tag 1, W and H, a byte each; tag 19, the numbers,
-    /// in the order of a level's coefficients, in units of 1/64^3 watt, five bytes each, two's complement, high byte
-    /// first. The grid has the exact reading of this table at every point. It is never refused.
+    /// The bytes of this table's grid: the sheet, and every coefficient of the surface at level 3, where the table is
+    /// refined and where it is not. It has two fields, with a tag and a length each as a table file's: tag 1, W and H,
+    /// a byte each; tag 19, the numbers, in the order of a level's coefficients, in units of 1/64^3 watt, five bytes
+    /// each, two's complement, high byte first. The grid has the exact reading of this table at every point. This call
+    /// is never refused.
     ///
     /// ```
     /// use kiln::{places, QuarterBox, Table};

@@ -107,7 +107,7 @@ WholeSheet =
     → ((q r : ℕ) → q < quarters (g .W) → r < quarters (g .H) → levels t q r ≡ 3)
     → ConvertsTo (g .W) (g .H) t (g .numbers) (theTable (ownNumbers g))
 
--- A table's grid, over a tree with no lower level, gives the table carried over to that tree.
+-- A table's grid, over a tree whose levels are nowhere lower, gives the table carried over to that tree.
 abbrev pub carriedTo : ℕ → ℕ → List ℕ → List ℤ → List ℕ → List ℤ
 carriedTo W H s cs t = sliceOf W H (carriedOver W H (levels s) (levels t) (coefficients W H cs))
 

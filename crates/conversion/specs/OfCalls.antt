@@ -148,7 +148,7 @@ module _ (Wrote : ℕ → ℕ → Contents → List ℕ → Answer ℕ → List 
 
   -- ---- there and back
 
-  -- A table that was written as a grid, and read over its own tree, is left as it was.
+  -- A table that was written as a grid, and read over its own tree, comes back number for number.
   abbrev pub OwnTreeBack : Type 0
   OwnTreeBack =
       (W H : ℕ) (c : Contents) (out : List ℕ) (n : ℕ) (written : List ℕ) → Wrote W H c out (gives n) written
@@ -156,7 +156,7 @@ module _ (Wrote : ℕ → ℕ → Contents → List ℕ → Answer ℕ → List 
       → (told : Answer Sides) (after : List ℤ) → Read (take n written) (c .tree) numbersOut told after
       → (told ≡ gives (record { W = W; H = H })) × (after ≡ c .numbers)
 
-  -- Over a tree with no lower level it is not refused with 21; it is the table carried over to that tree.
+  -- Over a tree whose levels are nowhere lower it is not refused with 21; it is the table carried over to that tree.
   abbrev pub FinerTreeBack : Type 0
   FinerTreeBack =
       (W H : ℕ) (c : Contents) (out : List ℕ) (n : ℕ) (written : List ℕ) → Wrote W H c out (gives n) written

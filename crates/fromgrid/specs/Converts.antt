@@ -42,7 +42,7 @@ pub record Good (file : List ℕ) (W H : ℕ) : Type 0 where
   pub contents : gridContents file
       ≡ contains (record { W = W; H = H; numbers = numbersIn (places W H 3) (drop 8 file) })
 
--- the numbers' field after that of the sides: what it holds, with nothing after it; or a number
+-- the numbers' field after that of the sides: what it holds, with nothing after it; or the refusal number
 abbrev pub NumbersJudged : Field → List ℕ → ℕ → ℕ → Type 0
 NumbersJudged (F.the-variants.Body end) file W H =
     (length file ≡ 8 + 5 * places W H 3)
