@@ -1,5 +1,7 @@
 // Which functions of a level are active, from the regions as rows of bits, a row of functions at a time: the words of
 // the quarter rows under a row's supports are taken together, then runs of set bits along u are found.
+#![tactic(auto)]
+
 pub mod count;
 pub mod mark;
 pub mod near;
@@ -21,7 +23,7 @@ pub fn eighths(level: usize) -> usize
 }
 
 // The quarters under a cut support along one side, from low to before high.
-#[derive(Drop)]
+#[derive(Clone, Copy)]
 pub struct Window {
     pub low: usize,
     pub high: usize,
@@ -47,7 +49,7 @@ pub fn window_of(n: usize, level: usize, a: usize) -> Window
 
 // Marks of the functions of one row of a level, from one function on: this one, every other after it, and those
 // between, in a word each. Marks in a word stand as many places apart as a cell's side has eighths.
-#[derive(Drop)]
+#[derive(Clone, Copy)]
 pub struct Marks {
     pub even: u64,
     pub odd: u64,

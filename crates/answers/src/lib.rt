@@ -1,21 +1,22 @@
 // What the calls answer: their result, or one refusal number of document 01.
+#![tactic(auto)]
 
 // A call that answers only whether it was done.
-#[derive(Drop)]
+#[derive(Clone, Copy)]
 pub enum Outcome {
     Done,
     Refused(u8),
 }
 
 // A call that writes a tree, or a file, returns its length.
-#[derive(Drop)]
+#[derive(Clone, Copy)]
 pub enum Length {
     Bytes(usize),
     Refused(u8),
 }
 
 // The least and the greatest level under a box, with the number of tree nodes visited.
-#[derive(Drop)]
+#[derive(Clone, Copy)]
 pub enum Least {
     Levels {
         least: u8,
@@ -27,7 +28,7 @@ pub enum Least {
 
 // Document 02: "a slip: box, level, new tree length, active functions of each level over the new tree, and the tree
 // nodes that one least-level call over the box will visit in the new tree".
-#[derive(Drop)]
+#[derive(Clone, Copy)]
 pub struct Slip {
     pub u0: usize,
     pub v0: usize,
@@ -43,28 +44,28 @@ pub struct Slip {
 }
 
 // The enquiry gives a slip.
-#[derive(Drop)]
+#[derive(Clone, Copy)]
 pub enum Enquiry {
     Given(Slip),
     Refused(u8),
 }
 
 // The exact reading: a numerator over D.
-#[derive(Drop)]
+#[derive(Clone, Copy)]
 pub enum Exact {
     Numerator(i64),
     Refused(u8),
 }
 
 // Document 01: either watts as an f64 or a refusal number.
-#[derive(Drop)]
+#[derive(Clone, Copy)]
 pub enum Reading {
     Watts(f64),
     Refused(u8),
 }
 
 // Document 02: "One record holds the watts and both slopes as f64", slopes in watts per eighth of a cell.
-#[derive(Drop)]
+#[derive(Clone, Copy)]
 pub struct WattsAndSlopes {
     pub watts: f64,
     pub along_u: f64,
@@ -72,35 +73,35 @@ pub struct WattsAndSlopes {
 }
 
 // That record, or a refusal number.
-#[derive(Drop)]
+#[derive(Clone, Copy)]
 pub enum Slopes {
     Given(WattsAndSlopes),
     Refused(u8),
 }
 
 // The display: whole watts.
-#[derive(Drop)]
+#[derive(Clone, Copy)]
 pub enum Display {
     Watts(i64),
     Refused(u8),
 }
 
 // Cost per hour, in hundredths of a cent.
-#[derive(Drop)]
+#[derive(Clone, Copy)]
 pub enum Cost {
     Hundredths(usize),
     Refused(u8),
 }
 
 // File reading returns the tree's length and the sides of the sheet.
-#[derive(Drop)]
+#[derive(Clone, Copy)]
 pub enum File {
     Loaded { length: usize, w: usize, h: usize },
     Refused(u8),
 }
 
 // Document 02: "whether a note stands there", and the part of the file that it is, which is empty where none stands.
-#[derive(Drop)]
+#[derive(Clone, Copy)]
 pub struct Note {
     pub stands: bool,
     pub offset: usize,
@@ -108,28 +109,28 @@ pub struct Note {
 }
 
 // The bench loader returns what file reading does, and the note.
-#[derive(Drop)]
+#[derive(Clone, Copy)]
 pub struct Bench {
     pub file: File,
     pub note: Note,
 }
 
 // A grid converted over a tree gives the sides of its sheet.
-#[derive(Drop)]
+#[derive(Clone, Copy)]
 pub enum Sheet {
     Sides { w: usize, h: usize },
     Refused(u8),
 }
 
 // Document 02: "the state is the number held and the place of the oldest".
-#[derive(Drop)]
+#[derive(Clone, Copy)]
 pub struct WindowState {
     pub held: usize,
     pub oldest: usize,
 }
 
 // A new record gives the new state.
-#[derive(Drop)]
+#[derive(Clone, Copy)]
 pub enum Recorded {
     State(WindowState),
     Refused(u8),
@@ -137,7 +138,7 @@ pub enum Recorded {
 
 // Document 02: "the total, least and greatest of the records held. ... With none held the total is 0 and the other two
 // are marked missing."
-#[derive(Drop)]
+#[derive(Clone, Copy)]
 pub enum Figures {
     Held {
         total: i64,

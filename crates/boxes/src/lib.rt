@@ -1,11 +1,13 @@
 // A box in whole quarters, the squares that share area with it, and those that lie in it; the quarter that holds a
 // point.
+#![tactic(auto)]
+
 ghost use Rattle.std.specs.Prelude.{◌≡◌, ◌+◌, ◌≤◌, ◌<◌};
 ghost use Rattle.surface.specs.Sheet.{quarter_of};
 ghost use Rattle.boxes.specs.Boxes.{box_at, overlap, shares_area, among, lies_in};
 
 // A box, low corner first.
-#[derive(Drop)]
+#[derive(Clone, Copy)]
 pub struct Box {
     pub u0: usize,
     pub v0: usize,

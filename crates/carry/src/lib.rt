@@ -1,6 +1,8 @@
 // The carried values of all functions, level by level, each once: a function's own coefficient where its cut support
 // lies in the region of its level, else the two-scale sum of its parents' carried values, first along v and then
 // along u.
+#![tactic(auto)]
+
 ghost use Rattle.std.specs.Prelude.{◌≡◌, ◌+◌, ◌-◌, ◌*◌, ◌/◌, ◌%◌, ◌≤◌, ◌<◌, leb, pos, length, get_or, set, take};
 ghost use Rattle.surface.specs.Sheet.{functions};
 ghost use Rattle.surface.specs.Table.{start, slots};

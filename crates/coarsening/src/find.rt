@@ -4,7 +4,7 @@ ghost use Rattle.rows.specs.Rows.{levels_of};
 ghost use Rattle.coarsening.specs.Coarser.{cell_at, side_at, Found};
 
 // A quarter square, where one was found.
-#[derive(Drop)]
+#[derive(Clone, Copy)]
 pub struct Square {
     pub found: bool,
     pub q: usize,

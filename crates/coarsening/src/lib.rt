@@ -1,5 +1,7 @@
 // The numbers of a level of a grid from those of the level after it: around cells that have a square of that level or
 // a coarser one in them, a step of subdivision is undone.
+#![tactic(auto)]
+
 mod find;
 mod sixteen;
 

@@ -1,4 +1,6 @@
 // Sides, the places of a level, where its part of the coefficients' slice starts, its limit, and a slice filled.
+#![tactic(auto)]
+
 ghost use Rattle.std.specs.Prelude.{◌≡◌, ◌&&◌, ℕ, ◌≤◌, ◌<◌, ltb, pos, nat_abs, length, replicate};
 ghost use Rattle.surface.specs.Sheet as Sheet;
 ghost use Rattle.surface.specs.Table as Table;

@@ -1,5 +1,7 @@
 // The corner program: reads a table file from standard input and prints the whole watts at each cell corner, or the
 // refusal number of the file. The table is judged once, by file reading.
+#![tactic(auto)]
+
 ghost use Rattle.std.specs.Prelude.{◌≡◌, List, ℕ, ◌+◌, ◌*◌, ◌≤◌, nat_abs, length, take};
 ghost use Rattle.io.specs.Counts.{IsPrefixLen};
 ghost use Rattle.surface.specs.Table.{Acceptable, table_reading};

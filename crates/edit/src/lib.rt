@@ -1,4 +1,6 @@
 // The calls that write a table's coefficients: a fresh table, and one coefficient set.
+#![tactic(auto)]
+
 ghost use Rattle.std.specs.Prelude.{◌≡◌, true, ◌&&◌, ◌++◌, ◌+◌, ◌-◌, ◌*◌, ◌≤◌, ◌<◌, pos, length, replicate};
 ghost use Rattle.std.proofs.Math.ListN as ListN;
 ghost use Rattle.surface.specs.Sheet.{functions};

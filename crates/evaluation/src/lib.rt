@@ -1,10 +1,12 @@
 // A patch of coefficients evaluated at a point of its cell: the reading there, and the slopes along u and along v.
+#![tactic(auto)]
+
 ghost use Rattle.std.specs.Prelude.{◌≡◌, ◌*◌, ◌≤◌};
 ghost use Rattle.evaluation.specs.Weights.{splines_of, derivatives_of, Fit, weighed, FitRows, weighed_rows};
 ghost use Rattle.evaluation.specs.Evaluated.{OfLevel, Evaluated, SlopesEvaluated};
 
 // A number for each of the four functions of a cell at a point: the splines, or their derivatives.
-#[derive(Drop)]
+#[derive(Clone, Copy)]
 struct Four {
     a: i64,
     b: i64,
@@ -87,7 +89,7 @@ pub fn evaluate(p: [[i64; 4]; 4], n: usize, r: usize, s: usize) -> i64
 }
 
 // The reading and the slopes there, as whole numbers.
-#[derive(Drop)]
+#[derive(Clone, Copy)]
 pub struct Slopes {
     pub watts: i64,
     pub along_u: i64,

@@ -1,5 +1,7 @@
 // Faults of a row of coefficients, of a level's and of a table's: an active one past its limit, a passive one that is
 // not 0.
+#![tactic(auto)]
+
 ghost use Rattle.std.specs.Prelude.{◌≡◌, true, ◌||◌, ℕ, ◌*◌, ◌≤◌, ◌<◌, pos, nat_abs, length, get_or};
 ghost use Rattle.surface.specs.Sheet.{functions};
 ghost use Rattle.surface.specs.Support.{active};
@@ -9,7 +11,7 @@ ghost use Rattle.activity.specs.Marks.{marked};
 ghost use Rattle.faults.specs.Faults.{RowFaults, LevelFaults, TableFaults};
 
 // Whether some active coefficient is past its limit, and whether some passive one is not 0.
-#[derive(Drop)]
+#[derive(Clone, Copy)]
 pub struct Faults {
     pub over: bool,
     pub stray: bool,

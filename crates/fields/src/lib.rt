@@ -1,4 +1,6 @@
 // Fields of a file: a one-byte tag, a two-byte length (high byte first) and a body; and bytes put into a lent buffer.
+#![tactic(auto)]
+
 pub mod number;
 
 ghost use Rattle.std.specs.Prelude.{◌≡◌, not, [], ◌∷◌, ◌+◌, ◌*◌, ◌%◌, ◌≤◌, ◌<◌, length, get_or, drop};
@@ -10,7 +12,7 @@ ghost use Rattle.fields.specs.Put.{Put};
 pub const HEAD: usize = 3;
 
 // What stands where a field is due: the position after its body, or a refusal number.
-#[derive(Drop)]
+#[derive(Clone, Copy)]
 pub enum Field {
     Body(usize),
     Faulty(u8),
@@ -77,7 +79,9 @@ pub fn put(text: &[u8], out: &mut [u8], at: usize) -> usize
     requires { at + length text.now ≤ length out.old }
     ensures { Put text.now at out.old result out.new }
 {
-    at + bytes::copy(text, &mut out[at..])
+    let end = at + text.len();
+    out[at..end].copy_from_slice(text);
+    end
 }
 
 // Puts one byte.

@@ -1,4 +1,6 @@
 // Watts and slopes as f64s, from the exact reading and the exact slopes.
+#![tactic(auto)]
+
 ghost use Rattle.std.specs.Prelude.{◌^◌};
 ghost use Rattle.surface.specs.Truncation.{D};
 ghost use Rattle.surface.specs.FloatReading.{Near};

@@ -1,5 +1,7 @@
 // The call that converts a grid to the table over a tree that has its readings: the numbers of levels 2, 1 and 0 are
 // found, each from the finer ones, and held against them; only then the slice is written.
+#![tactic(auto)]
+
 mod judge;
 mod numbers;
 

@@ -1,5 +1,7 @@
 // The enquiry and the commit: what inserting a box would give, and the insertion, which reads one table and writes
 // another.
+#![tactic(auto)]
+
 ghost use Rattle.demands.specs.Promises.{EnquirePromise, CommitPromise};
 ghost use Rattle.answers.specs.Answers.{slip_told};
 

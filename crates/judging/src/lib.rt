@@ -1,4 +1,6 @@
 // The judgement of a file in byte order, part by part. Nothing is written but the rows of the regions.
+#![tactic(auto)]
+
 ghost use Rattle.std.specs.Prelude.{◌≡◌, ℕ, ◌≤◌, ◌<◌, length, get_or, drop};
 ghost use Rattle.surface.specs.Support.{active_count};
 ghost use Rattle.surface.specs.TableFile.{counts_agree, counts_field, level_field, level_fields};

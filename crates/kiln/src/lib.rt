@@ -1,6 +1,8 @@
 // The calls for other languages: plain numbers and slices in, the refusal number back, 0 where there is none. A slice
 // passes as a pointer and a length. What a call gives beside is written through its last parameters, and nothing is
 // written where it refuses. What a call writes must not overlap anything else that it is lent.
+#![tactic(auto)]
+
 pub mod files;
 pub mod flag;
 pub mod grids;

@@ -1,4 +1,6 @@
 // The least and the greatest level under a box, with the number of tree nodes visited, by recursion into four children.
+#![tactic(auto)]
+
 ghost use Rattle.std.specs.Prelude.{◌≡◌, ◌+◌, ◌≤◌, ◌<◌, min, max, true, length};
 ghost use Rattle.surface.specs.Table.{tree_of, formed};
 ghost use Rattle.boxes.specs.Boxes.{box_of, box_at, InSheet};
@@ -7,7 +9,7 @@ ghost use Rattle.leastlevel.specs.Visits.{least_in, visited_in, begun, Standing,
 ghost use Rattle.leastlevel.specs.Visits.{LevelsOf};
 
 // The least and the greatest level of the leaves visited, and how many nodes were visited.
-#[derive(Drop)]
+#[derive(Clone, Copy)]
 pub struct Levels {
     pub least: usize,
     pub greatest: usize,

@@ -1,5 +1,7 @@
 // The calls that read a table file: judged whole in byte order first, then written. The bench loader also tells of the
 // note; the controller's passes over it.
+#![tactic(auto)]
+
 mod load;
 
 ghost use Rattle.std.specs.Prelude.{◌≡◌, ◌+◌, ◌≤◌, ◌<◌, min, drop};

@@ -1,6 +1,8 @@
 // A step of subdivision undone: the four by four numbers around a cell give those around the coarser cell that it lies
 // in. Row l of a patch here has the numbers along u of the l-th function along v. Where no coarser numbers subdivide to
 // those given, what comes out is nothing in particular.
+#![tactic(auto)]
+
 ghost use Rattle.std.specs.Prelude.{◌≡◌, ◌*◌, ◌≤◌, ◌<◌, pos, nat_abs, get_or};
 ghost use Rattle.patch.specs.Patches.{Bounded};
 ghost use Rattle.parents.specs.Parents.{wide, Wide, SecondOf, OtherOf, ThirdOf, FourWide, ParentsOf, FourWithin};

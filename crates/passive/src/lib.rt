@@ -1,4 +1,6 @@
 // 0 at every place whose function is passive under given regions; every other place keeps its number.
+#![tactic(auto)]
+
 ghost use Rattle.std.specs.Prelude.{◌≡◌, List, ◌+◌, ◌≤◌, ◌<◌, leb, ℤ, pos, length, get_or, set};
 ghost use Rattle.surface.specs.Table.{start, slots};
 ghost use Rattle.rows.specs.Rows.{Nested};

@@ -1,6 +1,8 @@
 // The four by four patch of coefficients, an array of arrays by value, subdivided from level to level. Entry [k][l] is
 // that of the k-th function along u and the l-th along v. A step works in place, in one array beside the patch that it
 // is given: its functions take numbers, or are lent that array.
+#![tactic(auto)]
+
 ghost use Rattle.std.specs.Prelude.{◌≡◌, ◌≤◌, ◌<◌, ℤ, ◌+ℤ◌};
 ghost use Rattle.patch.specs.Patches.{Bounded, Subdivided};
 ghost use Rattle.patch.specs.Steps.{midway, Small, Paired, even_of, odd_of, FourByFour, placed, with_place};

@@ -16,7 +16,7 @@ pub fn cell_of(n: usize, level: usize, u: usize) -> usize
 }
 
 // The steps of a cell of a level, and how many of them a point is into its cell along u and along v.
-#[derive(Drop)]
+#[derive(Clone, Copy)]
 pub struct Place {
     pub steps: usize,
     pub r: usize,

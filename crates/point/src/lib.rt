@@ -1,6 +1,8 @@
 // The exact reading and the exact slopes of an acceptable table at a point, from its regions as rows of bits and its
 // coefficients: a patch of sixteen, taken at level 0 and subdivided up to the level of the quarter square that holds
 // the point.
+#![tactic(auto)]
+
 pub mod cell;
 pub mod own;
 pub mod step;

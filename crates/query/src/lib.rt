@@ -1,4 +1,6 @@
 // The calls that ask a region tree: the levels under a box, and the activity of a level.
+#![tactic(auto)]
+
 ghost use Rattle.std.specs.Prelude.{◌≡◌};
 ghost use Rattle.surface.specs.Calls.{least_outcome, activity_outcome, SliceMeets};
 ghost use Rattle.answers.specs.Answers.{least_answer, outcome_answer};

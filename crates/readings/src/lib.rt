@@ -1,5 +1,7 @@
 // The calls that read a table at a point: exact, as an f64, with both slopes, as whole watts, and the cost per hour.
 // None writes.
+#![tactic(auto)]
+
 ghost use Rattle.std.specs.Prelude.{◌≡◌};
 ghost use Rattle.surface.specs.Calls.{reading_cause, exact_outcome, display_outcome, cost_outcome};
 ghost use Rattle.surface.specs.FloatReading.{FloatMeets};
@@ -36,7 +38,7 @@ fn cause_at(
 }
 
 // What is read at a point, or the cause for which it is not.
-#[derive(Drop)]
+#[derive(Clone, Copy)]
 enum Found {
     At(evaluation::Slopes),
     Refused(u8),

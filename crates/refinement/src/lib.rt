@@ -1,5 +1,7 @@
 // The parts of an insertion on either side of the new regions: what is read is judged, and a table is written over
 // regions that another refined, with its coefficients carried over.
+#![tactic(auto)]
+
 ghost use Rattle.std.specs.Prelude.{◌≡◌, ◌≤◌, length};
 ghost use Rattle.surface.specs.Table.{slots, slice_of};
 ghost use Rattle.surface.specs.Calls.{TableMeets, refinement_cause};

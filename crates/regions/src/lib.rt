@@ -1,6 +1,8 @@
 // The insertion of a box into the regions, by recursion into four children with the box in hand, and the one tree of
 // the new regions, written parent first; four equal leaves are merged on the way back. The recursion ends early at a
 // square away from the box whose quarters all have level 0, and at one in the box with no quarter above the level.
+#![tactic(auto)]
+
 ghost use Rattle.std.specs.Prelude.{◌≡◌, true, ◌+◌, ◌≤◌, ◌<◌, length};
 ghost use Rattle.boxes.specs.Boxes.{box_of, box_at};
 ghost use Rattle.rows.specs.Rows.{levels_of, Nested};

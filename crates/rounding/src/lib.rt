@@ -1,4 +1,6 @@
 // Whole watts and cost from the exact reading, by floor division.
+#![tactic(auto)]
+
 ghost use Rattle.std.specs.Prelude.{◌≡◌, ◌≤◌, ◌<◌, pos, nat_abs, ◌+ℤ◌, ◌*ℤ◌, ◌≤ℤ◌};
 ghost use Rattle.surface.specs.Truncation.{D};
 ghost use Rattle.surface.specs.Calls.{floor_div, whole_watts, cost_of};

@@ -1,5 +1,7 @@
 // Regions as rows of bits: for each of the levels 1 to 3 a word of 32 bits for each row of quarter squares, bit q of
 // word 32 l + r for quarter square (q, r) and level l + 1.
+#![tactic(auto)]
+
 ghost use Rattle.std.specs.Prelude.{◌≡◌, true, false, cond, ℕ, ◌+◌, ◌≤◌, ◌<◌, length};
 ghost use Rattle.finite.specs.Bits.{bit};
 ghost use Rattle.rows.specs.Rows.{in_span, levels_of, NoneIn, Masked, Raised};

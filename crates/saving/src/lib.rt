@@ -1,5 +1,7 @@
 // The call that writes a table file: the table is checked and the file's length found, then its fields are put in
 // order.
+#![tactic(auto)]
+
 mod counts;
 mod levels;
 mod notes;

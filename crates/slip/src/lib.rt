@@ -1,4 +1,6 @@
 // Slips: what is told of a box before it is inserted, and whether two slips are the same.
+#![tactic(auto)]
+
 ghost use Rattle.std.specs.Prelude.{◌≡◌, true, List, ℕ, ◌≤◌, ◌<◌};
 ghost use Rattle.surface.specs.Sheet.{quarters};
 ghost use Rattle.surface.specs.Table.{tree_of, formed, levels};

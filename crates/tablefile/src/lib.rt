@@ -1,6 +1,8 @@
 // Table files: their tags and sizes, and theorems about them: what is accepted is an acceptable table, one table has,
 // for each note or none, one file with the counts and one without, the controller's loader passes over a note, and
 // input longer than any file is judged by its front. The field of the sides stands at the front of a grid too.
+#![tactic(auto)]
+
 ghost use Rattle.std.specs.Prelude.{[], ◌∷◌, ◌≤◌, length};
 ghost use Rattle.surface.specs.Fields.{field_bytes};
 ghost use Rattle.fields.specs.Put.{Put};

@@ -1,4 +1,6 @@
 // Text put at a position of a lent buffer. Each function answers the position after its text.
+#![tactic(auto)]
+
 ghost use Rattle.std.specs.Prelude.{[], ◌∷◌, ◌++◌, ◌+◌, ◌≤◌, length};
 ghost use Rattle.fields.specs.Put.{Put};
 ghost use Rattle.text.specs.Text as Text;

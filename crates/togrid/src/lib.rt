@@ -1,5 +1,7 @@
 // The call that writes the grid of a table, "sheet, then every level 3 coefficient": the table is checked, then the
 // carried values of level 3 are put in order.
+#![tactic(auto)]
+
 mod strip;
 
 ghost use Rattle.std.specs.Prelude.{◌≡◌, ◌+◌, ◌≤◌, ◌<◌, length};

@@ -1,5 +1,7 @@
 // The last hours of a firing: a window over a run of minute records. A record is added, and the records held are told
 // by their total, least and greatest.
+#![tactic(auto)]
+
 ghost use Rattle.std.specs.Prelude.{◌≡◌, ◌+◌, ◌*◌, ◌≤◌, ◌<◌, nat_abs, ◌+ℤ◌, length};
 ghost use Rattle.surface.specs.Window.{window_cause, record_cause, place_after, new_state, records_held, figures_of};
 ghost use Rattle.surface.specs.Window.{folded, present};
@@ -97,7 +99,7 @@ fn greater(x: i32, y: i32) -> i32
 }
 
 // The total, least and greatest of some records.
-#[derive(Drop)]
+#[derive(Clone, Copy)]
 struct Sums {
     total: i64,
     least: i32,
