@@ -1,0 +1,12 @@
+use mathlib.Core.Path.{◌≡◌, ◌∙◌}
+use Prim.Native.Nat.{◌≤◌, ◌-◌}
+use native.Mathlib.Omega.{arith}
+use Rattle.rows.specs.Rows.{Masked}
+use Rattle.rows.proofs.MaskLaws.{in_levels, no-levels, mask-none, mask-level, mask-raised}
+use Rattle.rows.proofs.raise_square.Given as goal
+
+abbrev pub invariant-loop-l : goal.invariant-loop-l
+invariant-loop-l l = (l.l ≤ l.level) × Masked (in_levels l.y l.side l.l) l.mask l.initial.rows l.rows
+
+abbrev pub decreases-loop-l : goal.decreases-loop-l
+decreases-loop-l l = l.level - l.l
