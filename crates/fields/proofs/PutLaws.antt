@@ -5,6 +5,8 @@ use Prim.Native.Nat.{ℕ, ◌+◌, ◌-◌, ◌%◌, ◌≤◌, ◌<◌}
 use native.Mathlib.Nat.{zero-add, le_refl}
 use native.Mathlib.Numerals.{add-one}
 use native.Mathlib.Omega.{arith}
+use borrow.Rule.Slice.PartMut.{put_mid, drop_put}
+use Rattle.std.proofs.lemmas.List.{length-take-le, take_at}
 use lib.ListN.{length, take, drop, set, length-append, length-drop, take-append-drop, drop_of_length-le}
 use lib.Seq.{take_all, take-length, take-suc-set, drop-set-lt, drop-drop, paste, take-paste, drop-paste}
 use Rattle.finite.specs.Range.{joined}
@@ -34,33 +36,20 @@ put_byte b at o h = (
 )
 
 -- a text copied to the front of what stands from a position on
-pub put-copied : (text o : List ℕ) (at : ℕ) (p : List ℕ) → at + length text ≤ length o
-    → p ≡ take (length text) text ++ drop (length text) (take (length o - at) (drop at o))
-    → Put text at o (at + length text) (take at o ++ (p ++ drop (length o - at) (drop at o)))
-put-copied text o at p h e =
-    (refl, ap (take (at + n)) whole ∙ front, ap (drop (at + n)) whole ∙ past)
+pub put-copied : (text o : List ℕ) (at : ℕ) (p : List ℕ) → at + length text ≤ length o → p ≡ text
+    → Put text at o (at + length text) (put_mid at (at + length text - at) o p)
+put-copied text o at p h e = (refl, front, drop_put at (at + length text) o p (omega arith) h (omega (arith, ap length e)))
   where
-    n : ℕ
-    n = length text
-
     rest : List ℕ
-    rest = drop at o
+    rest = drop (at + length text - at) (drop at o)
 
-    whole : take at o ++ (p ++ drop (length o - at) rest) ≡ paste o at text n
-    whole =
-        ap (λ l. take at o ++ (p ++ l)) (drop_of_length-le rest {i = length o - at} (omega (arith, length-drop at o)))
-        ∙ ap (λ l. take at o ++ l)
-        (append-nil p
-        ∙ e
-        ∙ ap (λ l. take n text ++ drop n l) (take_all (length o - at) rest (omega (arith, length-drop at o)))
-        ∙ ap (λ l. take n text ++ l) (drop-drop n at o))
-        ∙ sym (append_assoc (take at o) (take n text) (drop (at + n) o))
+    sized : length (take at o ++ text) ≡ at + length text
+    sized = length-append (take at o) text ∙ ap (λ n. n + length text) (length-take-le at o (omega arith))
 
-    front : take (at + n) (paste o at text n) ≡ take at o ++ text
-    front = take-paste o at text n (omega arith) (le_refl n) ∙ ap (λ l. take at o ++ l) (take-length text)
-
-    past : drop (at + n) (paste o at text n) ≡ drop (at + n) o
-    past = drop-paste o at text n (omega arith) (le_refl n)
+    front : take (at + length text) (take at o ++ (p ++ rest)) ≡ take at o ++ text
+    front =
+        ap (take (at + length text)) (ap (λ l. take at o ++ (l ++ rest)) e ∙ sym (append_assoc (take at o) text rest))
+        ∙ take_at (take at o ++ text) rest (at + length text) sized
 
 -- "On success, tree output past the tree is untouched."
 pub put_front : (tree o : List ℕ) (r : ℕ) (p : List ℕ) → Put tree 0 o r p → p ≡ Calls.put tree o

@@ -10,7 +10,7 @@ use Rattle.finite.proofs.Written.{written, written_none, written-more, written_a
 use Rattle.coefficients.proofs.fill.Given as goal
 
 abbrev pub invariant-loop-i : goal.invariant-loop-i
-invariant-loop-i l = (l.i ≤ l.n) × (length l.s ≡ l.n) × (l.s ≡ written l.i (λ k. to_z w64 l.number) l.initial.s)
+invariant-loop-i l = (l.i ≤ l.n) × (length l.s ≡ l.n) × (l.s ≡ written l.i (λ k. l.number) l.initial.s)
 
 abbrev pub decreases-loop-i : goal.decreases-loop-i
 decreases-loop-i l = l.n - l.i

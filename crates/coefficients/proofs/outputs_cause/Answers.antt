@@ -13,7 +13,7 @@ returns-then-numbers_out-start c = rw (ne_eqb _ _ (λ e. c.if-numbers_out-start.
 
 -- past 16
 fits : (c : Else-numbers_out-start)
-    → let a = c.args in 0 ≡ length_cause (slots a.w a.h) a.numbers-out.now
+    → let a = c.args in 0 ≡ length_cause (slots a.w a.h) a.numbers_out.now
 fits c = rw (eq-eqb _ _ (c.if-numbers_out-start.false ∙ c.start.ensures.0))
 
 pub returns-then-tree_out-bytes : goal.returns-then-tree_out-bytes

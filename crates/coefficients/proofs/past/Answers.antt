@@ -20,4 +20,4 @@ pub overflow_sub-result : goal.overflow_sub-result
 overflow_sub-result c = low_fits (bound (goal.at.overflow_sub-result c).Start c.requires.1) c.requires.2
 
 pub returns : goal.returns
-returns c m e = past-below c.ranges.number (bound (goal.at.returns c).Start e) (sub-result c) c.if-limit-number.false
+returns c m e = past-below c.ranges.number (bound (goal.at.returns c).Start e) (overflow_sub-result c) c.if-limit-number.false

@@ -9,7 +9,7 @@ use Rattle.patch.proofs.subdivide.Goals as goal
 pub along_v-requires : goal.along_v-requires
 along_v-requires c =    let g = c.requires.0 in
     let h = c.requires.1 in
-    (omega arith, four-by-four c.args.p _ c.well-formed.0, bounded-le c.args.p (lit≤ tt) c.requires.2)
+    (omega arith, four-by-four c.args.p _ c.well_formed.0, bounded-le c.args.p (lit≤ tt) c.requires.2)
 
 pub along_u-requires : goal.along_u-requires
 along_u-requires c =    let g = c.requires.0 in

@@ -3,7 +3,6 @@ use mathlib.Core.Path.{◌≡◌, sym, ◌∙◌}
 use mathlib.Core.Bool.{true}
 use Prim.Native.Nat.{◌≤◌, ◌-◌}
 use native.Mathlib.Omega.{arith}
-use borrow.Author.Tests.{not-true, not-false}
 use Rattle.finite.specs.Range.{every}
 use Rattle.fields.proofs.NumberLaws.{kept, within_none, within_more, within_all, within-lost}
 use Rattle.fields.proofs.number.within.Goals as goal
@@ -14,14 +13,14 @@ loop-k-init c = let a = c.args in (omega arith, within_none a.most a.body.now)
 pub returns-then-not-keeps : goal.returns-then-not-keeps
 returns-then-not-keeps c =    let a = c.args in
     within-lost a.most a.body.now a.n c.loop-k.k c.loop-k-test.true
-    (sym (not-true _ c.if-not-keeps.true) ∙ c.keeps.ensures)
+    (sym c.if-not-keeps.true ∙ c.keeps.ensures)
 
 pub loop-k-preserved : goal.loop-k-preserved
 loop-k-preserved c =    let loop = c.loop-k in
     let a = c.args in (
       omega (arith, c.loop-k-test.true),
       within_more a.most a.body.now loop.k loop.invariant.1
-          (sym (not-false _ c.if-not-keeps.false) ∙ c.keeps.ensures),
+          (sym c.if-not-keeps.false ∙ c.keeps.ensures),
     )
 
 pub returns : goal.returns
