@@ -5,32 +5,25 @@ use lib.IntN.{pos, ◌-ℤ◌, ◌*ℤ◌}
 use Rattle.patch.proofs.Size.{literal, holds, mul-fits, mul_holds}
 use Rattle.parents.proofs.Sizes.{sub-fits, sub_holds}
 use Rattle.parents.proofs.Algebra.{third-is, third-size}
-use Rattle.parents.proofs.third.Statement.{statement}
-use Rattle.parents.proofs.third.Tie as tie
+use Rattle.parents.proofs.third.Goals as goal
 
-sub-result : tie.Need-overflow-sub-result
-sub-result c =
-    sub-fits (holds c.args.odd c.requires.0 (lit< tt)) (holds c.args.first c.requires.1 (lit< tt)) (lit< tt)
+pub overflow_sub-result : goal.overflow_sub-result
+overflow_sub-result c =    sub-fits (holds c.args.odd c.requires.0 (lit< tt)) (holds c.args.first c.requires.1 (lit< tt)) (lit< tt)
 
-mul-result : tie.Need-overflow-mul-result
-mul-result c = mul-fits (literal 6 (lit< tt)) (holds c.args.middle c.requires.2 (lit< tt)) (lit< tt)
+pub overflow_mul-result : goal.overflow_mul-result
+overflow_mul-result c = mul-fits (literal 6 (lit< tt)) (holds c.args.middle c.requires.2 (lit< tt)) (lit< tt)
 
-sub-result-2 : tie.Need-overflow-sub-result-2
-sub-result-2 c =
-    let less = sub_holds (holds c.args.odd c.requires.0 (lit< tt)) (holds c.args.first c.requires.1 (lit< tt))
+pub overflow_sub-result-2 : goal.overflow_sub-result-2
+overflow_sub-result-2 c =    let less = sub_holds (holds c.args.odd c.requires.0 (lit< tt)) (holds c.args.first c.requires.1 (lit< tt))
     (lit< tt) in
     let six = mul_holds (literal 6 (lit< tt)) (holds c.args.middle c.requires.2 (lit< tt)) (lit< tt) in
     sub-fits less six (lit< tt)
 
-returns : tie.Need-returns
-returns c =
-    let a = c.args in
+pub returns : goal.returns
+returns c =    let a = c.args in
     let less = sub_holds (holds a.odd c.requires.0 (lit< tt)) (holds a.first c.requires.1 (lit< tt)) (lit< tt) in
     let six = mul_holds (literal 6 (lit< tt)) (holds a.middle c.requires.2 (lit< tt)) (lit< tt) in
     let x = sub_holds less six (lit< tt) in (
       λ p e. x.same ∙ (λ i. e i -ℤ a.first -ℤ pos 6 *ℤ a.middle) ∙ third-is a.first a.middle p,
       λ m ho hf hm. rw x.same (third-size a.odd a.first a.middle ho hf hm),
     )
-
-pub third-spec : {M : Type 1} → statement M
-third-spec = tie.close (tie.spec sub-result mul-result sub-result-2 returns)
