@@ -6,8 +6,7 @@ use lib.Bits.{bit_and}
 use Rattle.surface.specs.Sheet.{eighths}
 use Rattle.activity.specs.Marks.{Runs}
 use Rattle.activity.proofs.BitLaws.{run-one, run-twice}
-use Rattle.activity.proofs.runs.Statement.{statement}
-use Rattle.activity.proofs.runs.Tie as tie
+use Rattle.activity.proofs.runs.Goals as goal
 
 abbrev twice : ℕ → ℕ → ℕ
 twice n run = bit_and run (run / 2 ^ n)
@@ -21,25 +20,20 @@ four word = run-twice word 2 (twice 1 word) (two word)
 eight : (word : ℕ) → Runs word 8 (twice 4 (twice 2 (twice 1 word)))
 eight word = run-twice word 4 (twice 2 (twice 1 word)) (four word)
 
-returns : tie.Need-returns
+pub returns-then-level-eq3 : goal.returns-then-level-eq3
 unfolding eighths
-returns c = rw c.if1.true (two c.before.args.word)
+returns-then-level-eq3 c = rw c.if-level-eq3.true (two c.args.word)
 
-returns-2 : tie.Need-returns-2
+pub returns-then-level-eq2 : goal.returns-then-level-eq2
 unfolding eighths
-returns-2 c = rw c.if2.true (four c.before.before.args.word)
+returns-then-level-eq2 c = rw c.if-level-eq2.true (four c.args.word)
 
-returns-3 : tie.Need-returns-3
+pub returns-then-level-eq1 : goal.returns-then-level-eq1
 unfolding eighths
-returns-3 c = rw c.if3.true (eight c.before.before.before.args.word)
+returns-then-level-eq1 c = rw c.if-level-eq1.true (eight c.args.word)
 
-returns-4 : tie.Need-returns-4
+pub returns : goal.returns
 unfolding eighths
-returns-4 c =
-    let s = c.before.before.before in
-    let coarse : s.args.level ≡ 0 =
-    omega (arith, c.if3.false, c.before.if2.false, c.before.before.if1.false) in
-    rw coarse (run-twice s.args.word 8 _ (eight s.args.word))
-
-pub runs-spec : {M : Type 1} → statement M
-runs-spec = tie.close (tie.spec returns returns-2 returns-3 returns-4)
+returns c =    let coarse : c.args.level ≡ 0 =
+    omega (arith, c.if-level-eq1.false, c.if-level-eq2.false, c.if-level-eq3.false) in
+    rw coarse (run-twice c.args.word 8 _ (eight c.args.word))

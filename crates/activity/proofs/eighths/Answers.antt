@@ -4,8 +4,7 @@ use Prim.Native.Nat.{ℕ, zero, suc, ◌/◌, ◌^◌, ◌≤◌}
 use native.Mathlib.Omega.{arith}
 use borrow.Author.Rules.{rules}
 use Rattle.surface.specs.Sheet.{eighths}
-use Rattle.activity.proofs.eighths.Statement.{statement}
-use Rattle.activity.proofs.eighths.Tie as tie
+use Rattle.activity.proofs.eighths.Goals as goal
 
 halved : (L : ℕ) → L ≤ 3 → 8 / 2 ^ L ≡ eighths L
 unfolding eighths
@@ -15,8 +14,5 @@ halved (suc (suc zero)) h = refl
 halved (suc (suc (suc zero))) h = refl
 halved (suc (suc (suc (suc L)))) h = absurd (omega arith)
 
-returns : tie.Need-returns
+pub returns : goal.returns
 returns c = halved c.args.level c.requires
-
-pub eighths-spec : {M : Type 1} → statement M
-eighths-spec = tie.close (tie.spec (λ c. search rules) returns)

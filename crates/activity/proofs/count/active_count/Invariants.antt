@@ -1,0 +1,18 @@
+use mathlib.Core.Path.{◌≡◌, ◌∙◌}
+use Prim.Native.Nat.{◌-◌, ◌*◌, ◌≤◌}
+use native.Mathlib.Omega.{arith}
+use borrow.Author.Rules.{rules}
+use Rattle.finite.specs.Range.{count, total}
+use Rattle.surface.specs.Support.{active_in_row}
+use Rattle.rows.specs.Rows.{levels_of}
+use Rattle.activity.specs.Marks.{marked}
+use Rattle.finite.proofs.Tests.{total-none, total-more, count-le}
+use Rattle.activity.proofs.CountLaws.{row_count, count-whole}
+use Rattle.activity.proofs.WindowLaws.{eighths-le, eighths-some, row-size}
+use Rattle.activity.proofs.count.active_count.Given as goal
+
+abbrev pub invariant-loop-b : goal.invariant-loop-b
+invariant-loop-b l = (l.b ≤ l.m) × (l.found ≤ 67 * l.b) × (l.found ≡ total l.b (λ r. active_in_row l.w l.h (levels_of l.rows) l.level r))
+
+abbrev pub decreases-loop-b : goal.decreases-loop-b
+decreases-loop-b l = l.m - l.b

@@ -1,0 +1,7 @@
+-- `next` meets its contract.
+use borrow.Author.Rules.{rules}
+use Rattle.activity.proofs.StepLaws.{marks-next}
+use Rattle.activity.proofs.next.Goals as goal
+
+pub returns : goal.returns
+returns c = marks-next c.args.e c.args.m
