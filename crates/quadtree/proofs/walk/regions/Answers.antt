@@ -6,22 +6,15 @@ use lib.ListN.{length}
 use borrow.Author.Tests.{eqb-true}
 use Rattle.quadtree.proofs.EndLaws.{form-end}
 use Rattle.quadtree.proofs.WalkLaws.{short, tree-rows}
-use Rattle.quadtree.proofs.walk.regions.Statement.{statement}
-use Rattle.quadtree.proofs.walk.regions.Tie as tie
+use Rattle.quadtree.proofs.walk.regions.Goals as goal
 
-walk-requires : tie.Need-walk-requires
-walk-requires c κs =
-    let p = c.before.before.before.requires in
+pub walk-requires : goal.walk-requires
+walk-requires c =    let p = c.requires in
     (record { height = 5; power = refl; in_u = omega arith; in_v = omega arith }, omega arith, p.0, p.1, refl)
 
-returns : tie.Need-returns
-returns c =
-    let s = c.before.before.before.before in
-    let t = s.args.t.now in
+pub returns : goal.returns
+returns c =    let t = c.args.t.now in
     let found = c.walk.ensures in
     let form =
-    ap (λ p. eqb p (length t)) (found.ends 5 refl) ∙ form-end s.args.w s.args.h t (short _ s.well-formed.0.1) in
+    ap (λ p. eqb p (length t)) (found.ends 5 refl) ∙ form-end c.args.w c.args.h t (short _ c.well_formed.0.1) in
     (form, λ e. tree-rows found (sym e ∙ form) (omega (arith, eqb-true c.walk.result (length t) e)))
-
-pub regions-spec : {M : Type 1} → statement M
-regions-spec = tie.close (tie.spec walk-requires returns)
