@@ -1,0 +1,15 @@
+use mathlib.Core.Path.{◌≡◌, refl, sym, ◌∙◌}
+use Prim.Native.Nat.{◌-◌, ◌≤◌}
+use native.Mathlib.Omega.{arith}
+use borrow.Author.Rules.{rules}
+use lib.ListN.{length}
+use Rattle.surface.specs.Table.{start, slots}
+use Rattle.passive.specs.Cleared.{cleared, ClearedTo}
+use Rattle.passive.proofs.SliceLaws.{slice-whole}
+use Rattle.passive.proofs.clear.Given as goal
+
+abbrev pub invariant-loop-level : goal.invariant-loop-level
+invariant-loop-level l = (l.level ≤ 4) × (length l.out ≡ slots l.w l.h) × ClearedTo (start l.w l.h l.level) l.w l.h l.rows l.initial.out l.out
+
+abbrev pub decreases-loop-level : goal.decreases-loop-level
+decreases-loop-level l = 4 - l.level

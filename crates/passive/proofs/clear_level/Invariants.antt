@@ -1,0 +1,24 @@
+use mathlib.Core.Path.{◌≡◌, sym, ◌∙◌, subst}
+use mathlib.Core.List.{List}
+use Prim.Native.Nat.{◌+◌, ◌-◌, ◌*◌, ◌≤◌, ◌<◌}
+use native.Mathlib.Nat.{le-add_right}
+use native.Mathlib.Omega.{arith}
+use borrow.Author.Rules.{rules}
+use lib.IntN.{ℤ}
+use lib.ListN.{length}
+use Rattle.surface.specs.Sheet.{functions}
+use Rattle.surface.specs.Table.{start, slots}
+use Rattle.activity.proofs.WindowLaws.{eighths-le}
+use Rattle.coefficients.proofs.Parts.{row-end, row_next, rows_none}
+use Rattle.passive.specs.Cleared.{ClearedTo}
+use Rattle.passive.proofs.SliceLaws.{rows_end}
+use Rattle.passive.proofs.ClearLaws.{row-cleared}
+use Rattle.passive.proofs.clear_level.Given as goal
+
+abbrev pub invariant-loop-b : goal.invariant-loop-b
+invariant-loop-b l =
+    (l.b ≤ l.m) × (l.from ≡ start l.w l.h l.level + l.b * l.n) × (length l.out ≡ slots l.w l.h)
+    × ((before : List ℤ) → ClearedTo (start l.w l.h l.level) l.w l.h l.rows before l.initial.out → ClearedTo l.from l.w l.h l.rows before l.out)
+
+abbrev pub decreases-loop-b : goal.decreases-loop-b
+decreases-loop-b l = l.m - l.b
