@@ -5,8 +5,7 @@ use native.Mathlib.Decide.{dec_le}
 use native.Mathlib.Omega.{arith}
 use borrow.Author.Tests.{le-leb, lt-leb}
 use Rattle.leastlevel.specs.Visits.{begun}
-use Rattle.leastlevel.proofs.begins.Statement.{statement}
-use Rattle.leastlevel.proofs.begins.Tie as tie
+use Rattle.leastlevel.proofs.begins.Goals as goal
 
 begun-by : (b : ℕ) → b ≤ 4 → b / 4 * 4 ≡ begun b
 begun-by b h = go (dec_le b 3)
@@ -15,8 +14,5 @@ begun-by b h = go (dec_le b 3)
     go (yes low) = rw (le-leb b 3 low) (omega arith)
     go (no high) = rw (lt-leb b 3 (omega arith)) (omega arith)
 
-returns : tie.Need-returns
+pub returns : goal.returns
 returns c = begun-by c.args.b c.requires
-
-pub begins-spec : {M : Type 1} → statement M
-begins-spec = tie.close (tie.spec (λ c. omega arith) (λ c. omega arith) returns)
