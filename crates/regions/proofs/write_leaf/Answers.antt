@@ -1,0 +1,7 @@
+-- `write_leaf` meets its contract.
+use borrow.Author.Rules.{rules}
+use Rattle.regions.proofs.BuildLaws.{leaf-at}
+use Rattle.regions.proofs.write_leaf.Goals as goal
+
+pub returns : goal.returns
+returns c = leaf-at c.args.at c.args.level c.args.out.now c.requires.1 c.requires.0
