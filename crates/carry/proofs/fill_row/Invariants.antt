@@ -1,0 +1,21 @@
+use mathlib.Core.Path.{◌≡◌, sym, ap, ◌∙◌}
+use mathlib.Core.List.{List}
+use Prim.Native.Nat.{◌≤◌, ◌<◌, ◌+◌, ◌-◌, ◌*◌}
+use native.Mathlib.Omega.{arith}
+use borrow.Author.Rules.{rules}
+use lib.IntN.{ℤ}
+use lib.ListN.{length, length-set}
+use Rattle.finite.specs.Range.{table_from}
+use Rattle.activity.proofs.StepLaws.{marks-next}
+use Rattle.carry.specs.Carried.{carried_if}
+use Rattle.passive.proofs.RowLaws.{Rule, mapped, Turn, turn-none, turn-set, turn-all}
+use Rattle.carry.proofs.fill_row.Given as goal
+
+abbrev pub rule : List ℤ → Rule
+rule sums t a z = carried_if t z sums a
+
+abbrev pub invariant-loop-k : goal.invariant-loop-k
+invariant-loop-k l = (l.k ≤ l.pairs) × Turn (rule l.sums) l.e l.initial.m l.own l.initial.row (2 * l.k) l.m l.row
+
+abbrev pub decreases-loop-k : goal.decreases-loop-k
+decreases-loop-k l = l.pairs - l.k
