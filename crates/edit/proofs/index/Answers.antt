@@ -12,33 +12,28 @@ use Rattle.surface.specs.Calls.{index}
 use Rattle.activity.proofs.WindowLaws.{functions-le}
 use Rattle.surface.proofs.Writers.{index_of}
 use Rattle.edit.proofs.SignedLaws.{sum_fits, sum_is}
-use Rattle.edit.proofs.index.Statement.{statement}
-use Rattle.edit.proofs.index.Tie as tie
+use Rattle.edit.proofs.index.Goals.{Start}
+use Rattle.edit.proofs.index.Goals as goal
 
 -- the sum is the index
-value : (c : tie.Start) → to_z w64 (of_z w64 (to_z w64 (of_z w64 c.args.i) +ℤ pos 3)) ≡ pos (index c.args.i)
+value : (c : Start) → to_z w64 (of_z w64 (to_z w64 (of_z w64 c.args.i) +ℤ pos 3)) ≡ pos (index c.args.i)
 value c = sum_is c.args.n c.args.level c.ranges.i c.requires.0 c.requires.1 c.requires.2
 
-below : (c : tie.Start) → index c.args.i < functions c.args.n c.args.level
+below : (c : Start) → index c.args.i < functions c.args.n c.args.level
 below c = (index_of c.args.n c.args.level c.args.i c.requires.2).1
 
-cast-result : tie.Need-overflow-cast-result
-cast-result c =
-    let few = functions-le c.args.n c.args.level c.requires.0 c.requires.1 in (
+pub overflow_cast-result : goal.overflow_cast-result
+overflow_cast-result c =    let few = functions-le c.args.n c.args.level c.requires.0 c.requires.1 in (
       subst (λ z. T (non_neg z)) (sym (value c)) tt,
       subst (λ z. Fits w64 (nat_abs z)) (sym (value c)) (record { fits = omega (arith, below c, few) }),
     )
 
-returns : tie.Need-returns
+pub returns : goal.returns
 returns c = (
   ap nat_abs (value c),
   subst (λ z. nat_abs z < functions c.args.n c.args.level) (sym (value c)) (below c),
 )
 
-pub index-spec : {M : Type 1} → statement M
-index-spec =
-    tie.close
-    (tie.spec
-    (λ c. sum_fits c.args.n c.args.level c.ranges.i c.requires.0 c.requires.1 c.requires.2)
-    cast-result
-    returns)
+pub overflow_add-result : goal.overflow_add-result
+overflow_add-result c =
+    sum_fits c.args.n c.args.level c.ranges.i c.requires.0 c.requires.1 c.requires.2

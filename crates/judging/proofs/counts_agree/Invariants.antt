@@ -1,0 +1,15 @@
+use mathlib.Core.Path.{◌≡◌, sym, ◌∙◌}
+use Prim.Native.Nat.{ℕ, ◌-◌, ◌≤◌, ◌<◌}
+use native.Mathlib.Omega.{arith}
+use borrow.Author.Rules.{rules}
+use Rattle.finite.proofs.Tests.{below_more}
+use Rattle.surface.specs.Fields.{two_bytes_at}
+use Rattle.judging.specs.Judged.{count_of}
+use Rattle.judging.proofs.CountsLaws.{Agrees, agree-all, agree-lost}
+use Rattle.judging.proofs.counts_agree.Given as goal
+
+abbrev pub invariant-loop-level : goal.invariant-loop-level
+invariant-loop-level l = (l.level ≤ 4) × ((L : ℕ) → L < l.level → Agrees (count_of l.counts) l.body L)
+
+abbrev pub decreases-loop-level : goal.decreases-loop-level
+decreases-loop-level l = 4 - l.level

@@ -1,0 +1,21 @@
+use mathlib.Core.Path.{◌≡◌, subst}
+use mathlib.Core.List.{[]}
+use Prim.Native.Nat.{ℕ, ◌-◌, ◌≤◌}
+use native.Mathlib.Omega.{arith}
+use borrow.Author.Rules.{rules}
+use lib.ListN.{length, drop}
+use Rattle.surface.specs.TableFile.{level_fields}
+use Rattle.activity.specs.Counts.{Counted}
+use Rattle.judging.specs.Judged.{ends_at, inside}
+use Rattle.judging.proofs.JudgeLaws.{levels-none, levels-faulty, levels-good}
+use Rattle.judging.proofs.levels_judge.Given as goal
+
+abbrev pub invariant-loop-level : goal.invariant-loop-level
+invariant-loop-level l =
+    (l.level ≤ 4)
+    × (l.at ≤ length l.file)
+    × ((W H : ℕ) (lev : ℕ → ℕ → ℕ) → Counted W H lev l.counts
+    → ends_at l.file l.at (level_fields W H lev l.level (drop l.from l.file)))
+
+abbrev pub decreases-loop-level : goal.decreases-loop-level
+decreases-loop-level l = 4 - l.level
