@@ -17,7 +17,7 @@ pub fn enquire(
     v1: usize,
     level: usize,
 ) -> answers::Enquiry
-    ensures { EnquirePromise w h (record { tree = tree.entry.now; numbers = numbers.now })
+    ensures { EnquirePromise w h (record { tree = tree.now; numbers = numbers.now })
         (record { box = record { u0 = u0; v0 = v0; u1 = u1; v1 = v1 }; level = level }) result }
 {
     let mut rows = [0u32; 96];
@@ -43,7 +43,7 @@ pub fn commit(
     tree_out: &mut [u8],
     numbers_out: &mut [i64],
 ) -> answers::Length
-    ensures { CommitPromise w h (record { tree = tree.entry.now; numbers = numbers.now })
+    ensures { CommitPromise w h (record { tree = tree.now; numbers = numbers.now })
         (record {
           slip = slip_told slip;
           tree_out = tree_out.old;

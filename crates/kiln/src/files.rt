@@ -88,7 +88,7 @@ pub extern "C" fn kiln_write_file(
     file_out: &mut [u8],
     length: &mut usize,
 ) -> u8
-    ensures { KilnWritePromise w h (record { tree = tree.entry.now; numbers = numbers.now })
+    ensures { KilnWritePromise w h (record { tree = tree.now; numbers = numbers.now })
         (lent_note (ltb 0 noted) note.now) file_out.old result
         length.old length.new file_out.new }
 {

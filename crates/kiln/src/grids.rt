@@ -11,7 +11,7 @@ pub extern "C" fn kiln_write_grid(
     grid_out: &mut [u8],
     length: &mut usize,
 ) -> u8
-    ensures { KilnWriteGridPromise w h (record { tree = tree.entry.now; numbers = numbers.now })
+    ensures { KilnWriteGridPromise w h (record { tree = tree.now; numbers = numbers.now })
         grid_out.old result length.old length.new grid_out.new }
 {
     let r = togrid::write_grid(w, h, tree, numbers, grid_out);

@@ -108,7 +108,7 @@ pub extern "C" fn kiln_enquire(
     slip_active: &mut [usize; 4],
     slip_visited: &mut usize,
 ) -> u8
-    ensures { KilnEnquirePromise w h (record { tree = tree.entry.now; numbers = numbers.now })
+    ensures { KilnEnquirePromise w h (record { tree = tree.now; numbers = numbers.now })
         (record { box = record { u0 = u0; v0 = v0; u1 = u1; v1 = v1 }; level = level }) result
         slip_length.old slip_length.new
         slip_active.old slip_active.new
@@ -145,7 +145,7 @@ pub extern "C" fn kiln_commit(
     numbers_out: &mut [i64],
     tree_length: &mut usize,
 ) -> u8
-    ensures { KilnCommitPromise w h (record { tree = tree.entry.now; numbers = numbers.now })
+    ensures { KilnCommitPromise w h (record { tree = tree.now; numbers = numbers.now })
         (record {
           slip = lent_slip (record { u0 = u0; v0 = v0; u1 = u1; v1 = v1 }) level slip_length
               slip_active.now slip_visited;
@@ -219,7 +219,7 @@ pub extern "C" fn kiln_exact(
     v: usize,
     numerator: &mut i64,
 ) -> u8
-    ensures { KilnExactPromise w h (record { tree = tree.entry.now; numbers = numbers.now }) u v result
+    ensures { KilnExactPromise w h (record { tree = tree.now; numbers = numbers.now }) u v result
         numerator.old numerator.new }
 {
     let r = readings::exact(w, h, tree, numbers, u, v);
@@ -272,8 +272,8 @@ pub extern "C" fn kiln_slopes(
 ) -> u8
     ensures { (result ≡ code_of (slopes_outcome w h tree.now numbers.now u v))
         × SlopesAfter (slopes_outcome w h tree.now numbers.now u v)
-        (record { watts = watts.entry.now; along_u = along_u.old; along_v = along_v.old })
-        (record { watts = watts.exit.now; along_u = along_u.new; along_v = along_v.new }) }
+        (record { watts = watts.old; along_u = along_u.old; along_v = along_v.old })
+        (record { watts = watts.new; along_u = along_u.new; along_v = along_v.new }) }
 {
     let r = readings::slopes(w, h, tree, numbers, u, v);
     match r {

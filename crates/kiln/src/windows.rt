@@ -10,8 +10,8 @@ pub extern "C" fn kiln_add_record(
     watts: i64,
 ) -> u8
     ensures { KilnRecordPromise window.old
-        (record { held = held.entry.now; oldest = oldest.old }) watts result
-        (record { held = held.exit.now; oldest = oldest.new }) window.new }
+        (record { held = held.old; oldest = oldest.old }) watts result
+        (record { held = held.new; oldest = oldest.new }) window.new }
 {
     let state = answers::WindowState {
         held: *held,

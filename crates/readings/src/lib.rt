@@ -59,7 +59,7 @@ fn read(w: usize, h: usize, tree: &[u8], numbers: &[i64], u: usize, v: usize, sl
 
 // The exact reading at (u, v), in steps of 1/128 cell: a numerator over D = 36 × 2^42.
 pub fn exact(w: usize, h: usize, tree: &[u8], numbers: &[i64], u: usize, v: usize) -> answers::Exact
-    ensures { ExactPromise w h (record { tree = tree.entry.now; numbers = numbers.now }) u v result }
+    ensures { ExactPromise w h (record { tree = tree.now; numbers = numbers.now }) u v result }
 {
     let r = read(w, h, tree, numbers, u, v, false);
     match r {

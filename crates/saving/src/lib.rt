@@ -101,7 +101,7 @@ pub fn write_file(
     note: &[u8],
     out: &mut [u8],
 ) -> answers::Length
-    ensures { WritePromise w h (record { tree = tree.entry.now; numbers = numbers.now })
+    ensures { WritePromise w h (record { tree = tree.now; numbers = numbers.now })
         (lent_note noted note.now) out.old result out.new }
 {
     let mut rows = [0u32; 96];

@@ -64,7 +64,7 @@ pub fn write_grid(
     numbers: &[i64],
     grid_out: &mut [u8],
 ) -> answers::Length
-    ensures { WriteGridPromise w h (record { tree = tree.entry.now; numbers = numbers.now })
+    ensures { WriteGridPromise w h (record { tree = tree.now; numbers = numbers.now })
         grid_out.old result grid_out.new }
 {
     let mut rows = [0u32; 96];

@@ -1,0 +1,22 @@
+use mathlib.Core.Path.{sym}
+use mathlib.Core.Bool.{true≢false}
+use Prim.Native.Nat.{ℕ, ◌+◌, ◌-◌, ◌≤◌, ◌<◌}
+use native.Mathlib.Omega.{arith}
+use borrow.Author.Rules.{rules}
+use borrow.Author.Tests.{not-true, not-false}
+use Rattle.finite.proofs.Tests.{below_more}
+use Rattle.surface.specs.Sheet.{functions}
+use Rattle.rows.specs.Rows.{levels_of}
+use Rattle.coarsening.specs.Coarser.{finer}
+use Rattle.fromgrid.specs.Converts.{in_rows, AgreesAt}
+use Rattle.fromgrid.proofs.agrees.Given as goal
+
+abbrev pub invariant-loop-b : goal.invariant-loop-b
+invariant-loop-b l =
+    (l.b ≤ l.m)
+    × ((j : ℕ) → j < l.b → (a : ℕ) → a < functions l.w (l.level + 1)
+    → AgreesAt l.w l.h (levels_of l.rows) l.level (in_rows (functions l.w l.level) l.coarse)
+    (finer l.level l.body l.fine (functions l.w (l.level + 1))) a j)
+
+abbrev pub decreases-loop-b : goal.decreases-loop-b
+decreases-loop-b l = l.m - l.b

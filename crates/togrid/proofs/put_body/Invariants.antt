@@ -1,0 +1,19 @@
+use mathlib.Core.Path.{◌≡◌, refl, ap, ◌∙◌, subst}
+use mathlib.Core.List.{List}
+use Prim.Native.Nat.{ℕ, ◌+◌, ◌-◌, ◌*◌, ◌≤◌}
+use native.Mathlib.Omega.{arith}
+use borrow.Author.Rules.{rules}
+use lib.ListN.{length}
+use Rattle.finite.specs.Range.{joined}
+use Rattle.surface.specs.Sheet.{functions}
+use Rattle.fields.specs.Put.{Put}
+use Rattle.fields.proofs.PutLaws.{put-none}
+use Rattle.togrid.specs.Strips.{grid_row}
+use Rattle.togrid.proofs.TextLaws.{joined-part, put-more, grid-bytes}
+use Rattle.togrid.proofs.put_body.Given as goal
+
+abbrev pub invariant-loop-y : goal.invariant-loop-y
+invariant-loop-y l = (l.y ≤ l.last) × (length l.out ≡ length l.initial.out) × Put (joined (8 * l.y) (grid_row l.w l.h l.rows l.numbers)) l.at l.initial.out l.to l.out
+
+abbrev pub decreases-loop-y : goal.decreases-loop-y
+decreases-loop-y l = l.last - l.y
