@@ -1,0 +1,30 @@
+use mathlib.Core.Path.{◌≡◌, refl, ap, ◌∙◌, subst}
+use mathlib.Core.List.{List}
+use Prim.Native.Nat.{ℕ, ◌+◌, ◌-◌, ◌*◌, ◌≤◌, ◌<◌}
+use native.Mathlib.Omega.{arith}
+use lib.ListN.{length}
+use mir.Syntax.{w64}
+use mir.Val.{to_z, of_z}
+use mir.ValLaws.{to_z-of_z}
+use borrow.Author.Rules.{sfits_of}
+use Rattle.surface.specs.Table.{Acceptable}
+use Rattle.surface.proofs.TableLaws.{sound, sides}
+use Rattle.rows.specs.Rows.{level_rows}
+use Rattle.finite.specs.Range.{joined}
+use Rattle.text.specs.Text.{line}
+use Rattle.corners.specs.Text.{corner_line}
+use Rattle.fields.specs.Put.{Put}
+use Rattle.fields.proofs.PutLaws.{put_next, put-none}
+use Rattle.text.proofs.TextLaws.{line-short}
+use Rattle.corners.proofs.row.Given as goal
+
+abbrev pub invariant-loop-u : goal.invariant-loop-u
+invariant-loop-u l =
+    (l.u ≤ l.w + 1)
+    × (length l.out ≡ length l.initial.out)
+    × (l.at ≤ l.start + 11 * l.u)
+    × ((t : List ℕ) → l.rows ≡ level_rows t → Acceptable l.w l.h t l.numbers
+    → Put (joined l.u (corner_line l.w l.h t l.numbers l.v)) l.start l.initial.out l.at l.out)
+
+abbrev pub decreases-loop-u : goal.decreases-loop-u
+decreases-loop-u l = l.w + 1 - l.u
