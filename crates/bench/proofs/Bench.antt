@@ -6,7 +6,7 @@ use mathlib.Core.List.{List, [], ◌∷◌}
 use Prim.Native.Nat.{ℕ, ◌*◌, ◌^◌, ◌≤◌, ◌<◌}
 use native.Mathlib.Nat.{le_refl, le_antisymm, one-le-pow, mul_comm, mul_left_comm}
 use native.Mathlib.Omega.{arith}
-use lib.IntN.{ℤ, pos, ◌*ℤ◌}
+use lib.IntN.{pos, ◌*ℤ◌}
 use lib.ListN.{length, replicate, length-replicate}
 use lib.Dec.{eqb, lit<, lit≤}
 use lib.Signed.{◌≤ℤ◌}

@@ -5,7 +5,7 @@ use Prim.Native.Nat.{ℕ, ◌+◌, ◌<◌}
 use native.Mathlib.Nat.{add-zero}
 use native.Mathlib.Omega.{arith}
 use lib.Dec.{eqb}
-use lib.IntN.{ℤ, pos, ◌+ℤ◌, ◌*ℤ◌, zero-*ℤ, *ℤ_comm, +ℤ_idl}
+use lib.IntN.{ℤ, pos, ◌*ℤ◌, zero-*ℤ, *ℤ_comm, +ℤ_idl}
 use lib.Signed.{◌≤ℤ◌, ≤ℤ_refl}
 use borrow.Author.Tests.{eq-eqb, ne_eqb}
 use Rattle.finite.specs.Range.{sum, sum2}

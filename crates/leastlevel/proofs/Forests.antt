@@ -7,7 +7,7 @@ use native.Mathlib.Decide.{dec_le}
 use native.Mathlib.Omega.{arith}
 use borrow.Author.Tests.{le-leb, lt-leb}
 use lib.ListN.{length, get_or}
-use Rattle.surface.specs.Quadtree.{Quadtree, leaf, bytes}
+use Rattle.surface.specs.Quadtree.{Quadtree, bytes}
 use Rattle.quadtree.specs.Subtree.{Subtree}
 use Rattle.quadtree.proofs.SubtreeLaws.{bytes-some, subtree-inside, subtree-bytes, subtree-leaf, subtree-split}
 use Rattle.leastlevel.specs.Visits.{begun}

@@ -1,7 +1,7 @@
 -- The greatest level of quarter squares: its bounds, and that of the one quarter square that holds a point.
 use mathlib.Core.Path.{◌≡◌, sym, ap₂, subst}
 use mathlib.Core.Bool.{Bool, true, ◌&&◌, cond}
-use Prim.Native.Nat.{ℕ, ◌+◌, ◌-◌, ◌≤◌, ◌<◌}
+use Prim.Native.Nat.{ℕ, ◌+◌, ◌≤◌, ◌<◌}
 use native.Mathlib.Nat.{le_trans, le_of_eq, le_antisymm}
 use native.Mathlib.Omega.{arith}
 use lib.Dec.{leb, ltb}

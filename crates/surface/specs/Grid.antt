@@ -7,7 +7,7 @@ use Rattle.surface.specs.Truncation.{value_at}
 use Rattle.surface.specs.Carry.{carried}
 use Rattle.surface.specs.Table.{cause, ◌or_else◌, tree_of, formed, levels, places, slots, coefficients, limit}
 use Rattle.surface.specs.Table.{table_cause}
-use Rattle.surface.specs.Calls.{Answer, refused, gives, put, Done, done, length_cause, exact_outcome}
+use Rattle.surface.specs.Calls.{refused, gives, put, Done, done, length_cause, exact_outcome}
 use Rattle.surface.specs.Fields.{Judged, declined, contains, unless, Part, in_part, field, checked}
 use Rattle.surface.specs.Fields.{number_at, all_within, field_bytes, number_bytes}
 use Rattle.surface.specs.TableFile.{Sides, sides_field, end_cause}

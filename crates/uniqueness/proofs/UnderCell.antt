@@ -1,6 +1,6 @@
 -- The functions over a cell of level 3, level by level: four in each direction, and what the level of the cell's
 -- quarter square says of them.
-use Prim.Native.Nat.{ℕ, ◌+◌, ◌-◌, ◌*◌, ◌/◌, ◌≤◌, ◌<◌}
+use Prim.Native.Nat.{ℕ, ◌+◌, ◌*◌, ◌/◌, ◌≤◌, ◌<◌}
 use native.Mathlib.Nat.{le_refl, mul-le-mul_right, lt_of_mul-lt-mul_right}
 use native.Mathlib.Omega.{arith}
 use Rattle.surface.specs.Sheet.{functions, eighths}

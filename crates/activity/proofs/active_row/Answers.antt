@@ -1,7 +1,6 @@
 -- `active_row` meets its contract.
 use mathlib.Core.Path.{sym, subst}
 use Prim.Native.Nat.{◌≤◌}
-use borrow.Author.Rules.{rules}
 use Rattle.rows.specs.Rows.{levels_of}
 use Rattle.activity.specs.Marks.{ActiveRow}
 use Rattle.activity.proofs.WindowLaws.{window-asks, window-ends}
@@ -21,11 +20,11 @@ pub inside-own-requires : goal.inside-own-requires
 inside-own-requires c = let p = c.requires in (p.0, p.2, (ends c).0, (ends c).1, p.4)
 
 pub beyond-finer-requires : goal.beyond-finer-requires
-beyond-finer-requires c =    let p = c.requires in
+beyond-finer-requires c = let p = c.requires in
     (p.0, p.2, (ends (goal.at.beyond-finer-requires c).After-window_of-window).0, (ends (goal.at.beyond-finer-requires c).After-window_of-window).1, p.4)
 
 pub returns : goal.returns
-returns c =    let finer = c.beyond-finer in
+returns c = let finer = c.beyond-finer in
     let own = c.inside-own in
     let a = c.args in
     let over = c.window_of-window.ensures in

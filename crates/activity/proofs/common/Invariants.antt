@@ -1,10 +1,5 @@
-use mathlib.Core.Path.{◌≡◌}
 use Prim.Native.Nat.{◌≤◌, ◌-◌}
-use native.Mathlib.Omega.{arith}
-use Rattle.finite.proofs.Bits.{bit-ones}
-use Rattle.finite.specs.Range.{least}
 use Rattle.activity.specs.Marks.{Common}
-use Rattle.activity.proofs.BitLaws.{common-more}
 use Rattle.activity.proofs.common.Given as goal
 
 abbrev pub invariant-loop-i : goal.invariant-loop-i

@@ -1,5 +1,4 @@
 -- `is_marked` meets its contract.
-use mathlib.Core.Logic.{⊎_elim}
 use mathlib.Core.Path.{refl}
 use Prim.Native.Nat.{◌*◌, ◌/◌, ◌%◌, ◌≤◌}
 use native.Mathlib.Nat.{mul_assoc, mul-le-mul_right}
@@ -18,7 +17,7 @@ place s =
 
 pub returns : goal.returns
 unfolding bit
-returns c =    let a = c.args.a in
+returns c = let a = c.args.a in
     elim c.if-a-eq0.branch [ then-a-eq0 w ↦ rw (eq-eqb (a % 2) 0 w.if-a-eq0.true, w.word-is) refl | else-a-eq0 w ↦ rw (ne_eqb (a % 2) 0 w.if-a-eq0.false, w.word-is) refl ]
 
 pub overflow_mul-result : goal.overflow_mul-result

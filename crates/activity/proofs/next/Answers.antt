@@ -1,5 +1,4 @@
 -- `next` meets its contract.
-use borrow.Author.Rules.{rules}
 use Rattle.activity.proofs.StepLaws.{marks-next}
 use Rattle.activity.proofs.next.Goals as goal
 

@@ -2,7 +2,6 @@
 use Prim.Native.Nat.{◌-◌, ◌*◌}
 use native.Mathlib.Omega.{arith}
 use lib.Pow.{shr_le}
-use borrow.Author.Rules.{rules}
 use Rattle.activity.proofs.BitLaws.{padded-bit}
 use Rattle.activity.proofs.padded.Goals as goal
 

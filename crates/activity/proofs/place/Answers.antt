@@ -2,7 +2,6 @@
 use mathlib.Core.Path.{ap}
 use Prim.Native.Nat.{◌≤◌}
 use native.Mathlib.Omega.{arith}
-use borrow.Author.Rules.{rules}
 use Rattle.activity.specs.Marks.{placed}
 use Rattle.activity.proofs.WindowLaws.{eighths-le}
 use Rattle.activity.proofs.place.Goals.{After-eighths-e}
@@ -12,7 +11,7 @@ side : (c : After-eighths-e) → c.eighths-e.result ≤ 8
 side c = omega (arith, c.eighths-e.ensures, eighths-le c.args.level)
 
 pub returns : goal.returns
-returns c =    ap (λ e. placed e c.args.m) c.eighths-e.ensures
+returns c = ap (λ e. placed e c.args.m) c.eighths-e.ensures
 
 pub overflow_mul-result : goal.overflow_mul-result
 overflow_mul-result c =

@@ -1,6 +1,5 @@
 -- `region_words` meets its contract.
 use Prim.Native.Nat.{ℕ, ◌≤◌}
-use borrow.Author.Rules.{rules}
 use Rattle.surface.specs.Sheet.{eighths}
 use Rattle.rows.specs.Rows.{levels_of}
 use Rattle.activity.specs.Marks.{placed, RegionRow}
@@ -23,9 +22,9 @@ by c even run H b hH over =
     c.requires.5 over.0 over.1 c.common-word.ensures c.padded.ensures run
 
 pub returns-then-level-eq3 : goal.returns-then-level-eq3
-returns-then-level-eq3 c =    let level = c.args.level in
+returns-then-level-eq3 c = let level = c.args.level in
     by (goal.at.returns-then-level-eq3 c).After-runs-odd _ (fine-run level c.padded.result c.runs-odd.result c.runs-odd.ensures c.if-level-eq3.true)
 
 pub returns-else-level-eq3 : goal.returns-else-level-eq3
-returns-else-level-eq3 c =    by (goal.at.returns-else-level-eq3 c).After-runs-odd _ (coarse-run c.args.level c.padded.result c.runs-odd.result c.runs-odd.ensures c.requires.1
+returns-else-level-eq3 c = by (goal.at.returns-else-level-eq3 c).After-runs-odd _ (coarse-run c.args.level c.padded.result c.runs-odd.result c.runs-odd.ensures c.requires.1
     c.if-level-eq3.false)

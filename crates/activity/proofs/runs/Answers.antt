@@ -34,6 +34,6 @@ returns-then-level-eq1 c = rw c.if-level-eq1.true (eight c.args.word)
 
 pub returns : goal.returns
 unfolding eighths
-returns c =    let coarse : c.args.level ≡ 0 =
+returns c = let coarse : c.args.level ≡ 0 =
     omega (arith, c.if-level-eq1.false, c.if-level-eq2.false, c.if-level-eq3.false) in
     rw coarse (run-twice c.args.word 8 _ (eight c.args.word))

@@ -1,9 +1,7 @@
 -- `window_of` meets its contract: each `if` gives an end of the support, cut to the sheet.
-use mathlib.Core.Logic.{⊎_elim}
 use mathlib.Core.Path.{◌≡◌}
 use Prim.Native.Nat.{◌+◌, ◌*◌, ◌-◌, ◌≤◌, min}
 use native.Mathlib.Omega.{arith}
-use borrow.Author.Rules.{rules}
 use Rattle.activity.proofs.WindowLaws.{eighths-le, place-le}
 use Rattle.activity.proofs.window_of.Goals.{After-eighths-e, Joined-before-at, Joined-reach-edge, else-before-at, else-reach-edge, then-before-at, then-reach-edge}
 use Rattle.activity.proofs.window_of.Goals as goal
@@ -27,7 +25,7 @@ high-end : (c : Joined-reach-edge)
 high-end c = elim c.if-reach-edge.branch [ then-reach-edge w ↦ omega arith | else-reach-edge w ↦ omega arith ]
 
 pub returns : goal.returns
-returns c =    let side = c.eighths-e.ensures in
+returns c = let side = c.eighths-e.ensures in
     (rw (← side) (omega (arith, low_end (goal.at.returns c).Joined-before-at)), rw (← side) (omega (arith, high-end (goal.at.returns c).Joined-reach-edge)))
 
 pub overflow_mul-at : goal.overflow_mul-at

@@ -1,5 +1,4 @@
 -- `overlaps` is the test `overlap`.
-use borrow.Author.Rules.{rules}
 use borrow.Author.Tests.{lt-ltb, le-ltb}
 use Rattle.boxes.proofs.overlaps.Goals as goal
 

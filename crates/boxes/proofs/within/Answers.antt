@@ -1,5 +1,4 @@
 -- `within` is the test `among`.
-use borrow.Author.Rules.{rules}
 use borrow.Author.Tests.{le-leb, lt-leb}
 use Rattle.boxes.proofs.within.Goals as goal
 

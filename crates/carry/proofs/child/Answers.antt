@@ -1,7 +1,7 @@
 -- The child of two parents or of three.
 use Prim.Native.Nat.{◌+◌, ◌<◌}
 use native.Mathlib.Omega.{arith}
-use borrow.Author.Rules.{rules, sfits_of}
+use borrow.Author.Rules.{sfits_of}
 use lib.IntN.{pos}
 use lib.ListN.{length, get_or}
 use Rattle.patch.proofs.Subdivision.{small, even-value, odd-value}
@@ -9,13 +9,13 @@ use Rattle.carry.proofs.ChildLaws.{odd-rest, child-even, child-odd}
 use Rattle.carry.proofs.child.Goals as goal
 
 pub even-requires : goal.even-requires
-even-requires c =    let l = c.args.values.now in
+even-requires c = let l = c.args.values.now in
     let at = c.args.at in
     let next = at + c.args.step in
     (small (get_or l at (pos 0)) (c.requires.2 at (omega arith)), small (get_or l next (pos 0)) (c.requires.2 next c.requires.0))
 
 pub returns-then-c-eq0 : goal.returns-then-c-eq0
-returns-then-c-eq0 c =    let l = c.args.values.now in
+returns-then-c-eq0 c = let l = c.args.values.now in
     let at = c.args.at in
     let next = at + c.args.step in
     child-even l at c.args.step c.args.c c.requires.0 c.if-c-eq0.true
@@ -23,7 +23,7 @@ returns-then-c-eq0 c =    let l = c.args.values.now in
     (c.requires.2 next c.requires.0) c.even.ensures)
 
 pub odd-requires : goal.odd-requires
-odd-requires c =    let l = c.args.values.now in
+odd-requires c = let l = c.args.values.now in
     let at = c.args.at in
     let next = at + c.args.step in
     let last = next + c.args.step in (
@@ -33,7 +33,7 @@ odd-requires c =    let l = c.args.values.now in
     )
 
 pub returns : goal.returns
-returns c =    let l = c.args.values.now in
+returns c = let l = c.args.values.now in
     let at = c.args.at in
     let next = at + c.args.step in
     let last = next + c.args.step in

@@ -1,19 +1,18 @@
 -- Before each turn the first i numbers are copied.
 use mathlib.Core.Path.{◌≡◌, refl, sym, ap₂, ◌∙◌}
 use mathlib.Core.List.{[], ◌∷◌, ◌++◌}
-use Prim.Native.Nat.{◌≤◌, ◌-◌}
 use native.Mathlib.Numerals.{add-one}
 use native.Mathlib.Omega.{arith}
 use borrow.Author.Rules.{sfits_of}
 use lib.IntN.{pos}
-use lib.ListN.{length, take, length-set}
+use lib.ListN.{length-set}
 use lib.Seq.{take-suc, take-suc-set}
 use mir.Syntax.{w64}
 use mir.ValLaws.{to_z-of_z}
 use Rattle.carry.proofs.copy.Goals as goal
 
 pub loop-i-preserved : goal.loop-i-preserved
-loop-i-preserved c =    let loop = c.loop-i in
+loop-i-preserved c = let loop = c.loop-i in
     let numbers = c.args.numbers.now in (
       omega arith,
       simp length-set loop.invariant.1,
@@ -24,7 +23,7 @@ loop-i-preserved c =    let loop = c.loop-i in
     )
 
 pub returns : goal.returns
-returns c =    let loop = c.loop-i in
+returns c = let loop = c.loop-i in
     let all : loop.i ≡ c.args.n = omega arith in
     (loop.invariant.1, rw all at loop.invariant.2)
 

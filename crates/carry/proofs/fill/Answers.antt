@@ -1,8 +1,7 @@
 -- Before each turn the levels up to `coarse` hold their carried values.
 use mathlib.Core.Path.{◌≡◌, sym, ◌∙◌, subst}
-use Prim.Native.Nat.{◌+◌, ◌-◌, ◌≤◌}
+use Prim.Native.Nat.{◌+◌}
 use native.Mathlib.Omega.{arith}
-use borrow.Author.Rules.{rules}
 use Rattle.surface.specs.Table.{start, coefficients}
 use Rattle.surface.specs.Carry.{carried}
 use Rattle.surface.proofs.TableLaws.{start-before}
@@ -13,10 +12,10 @@ use Rattle.carry.proofs.CarryLaws.{level-zero}
 use Rattle.carry.proofs.fill.Goals as goal
 
 pub copy-requires : goal.copy-requires
-copy-requires c =    omega (arith, c.places.ensures.0, start-before c.args.w c.args.h 0 4 (omega arith))
+copy-requires c = omega (arith, c.places.ensures.0, start-before c.args.w c.args.h 0 4 (omega arith))
 
 pub loop-coarse-init : goal.loop-coarse-init
-loop-coarse-init c =    let copied = c.copy in
+loop-coarse-init c = let copied = c.copy in
     let few = c.places in
     let a = c.args in (
       omega arith,
@@ -25,7 +24,7 @@ loop-coarse-init c =    let copied = c.copy in
     )
 
 pub loop-coarse-preserved : goal.loop-coarse-preserved
-loop-coarse-preserved c =    let a = c.args in
+loop-coarse-preserved c = let a = c.args in
     let next : c.loop-coarse.coarse + 2 ≡ c.loop-coarse.coarse + 1 + 1 = omega arith in (
       omega (arith, c.loop-coarse-test.true),
       subst (λ k. CarriedTo (start a.w a.h k) a.w a.h a.rows.now a.numbers.now
@@ -33,7 +32,7 @@ loop-coarse-preserved c =    let a = c.args in
     )
 
 pub returns : goal.returns
-returns c =    let loop = c.loop-coarse in
+returns c = let loop = c.loop-coarse in
     let a = c.args in
     let all : loop.coarse + 1 ≡ 4 = omega arith in
     slice-whole a.w a.h

@@ -1,14 +1,6 @@
-use mathlib.Core.Path.{◌≡◌, sym, ◌∙◌, subst}
 use Prim.Native.Nat.{◌+◌, ◌-◌, ◌≤◌}
-use native.Mathlib.Omega.{arith}
-use borrow.Author.Rules.{rules}
-use Rattle.surface.specs.Table.{start, coefficients}
-use Rattle.surface.specs.Carry.{carried}
-use Rattle.surface.proofs.TableLaws.{start-before}
-use Rattle.rows.specs.Rows.{levels_of}
+use Rattle.surface.specs.Table.{start}
 use Rattle.carry.specs.Carried.{CarriedTo}
-use Rattle.passive.proofs.SliceLaws.{slice-whole}
-use Rattle.carry.proofs.CarryLaws.{level-zero}
 use Rattle.carry.proofs.fill.Given as goal
 
 abbrev pub invariant-loop-coarse : goal.invariant-loop-coarse

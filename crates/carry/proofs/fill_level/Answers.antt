@@ -1,19 +1,17 @@
 -- Before each turn the rows of the level below b hold their carried values.
 use mathlib.Core.Path.{◌≡◌, refl, sym, ap, ◌∙◌, subst}
-use Prim.Native.Nat.{◌+◌, ◌-◌, ◌*◌, ◌%◌, ◌≤◌, ◌<◌}
+use Prim.Native.Nat.{◌+◌, ◌%◌, ◌≤◌, ◌<◌}
 use native.Mathlib.Nat.{le-add_right}
 use native.Mathlib.Numerals.{add-one}
 use native.Mathlib.Omega.{arith}
-use borrow.Author.Rules.{rules}
 use lib.ListN.{length}
 use Rattle.surface.specs.Sheet.{functions}
 use Rattle.surface.specs.Table.{start}
 use Rattle.surface.proofs.TableLaws.{start-step}
 use Rattle.activity.proofs.WindowLaws.{eighths-le}
 use Rattle.coefficients.proofs.Parts.{part, part_length, row-end, row_next, rows_none}
-use Rattle.carry.specs.Carried.{CarriedTo, AlongV, Within}
+use Rattle.carry.specs.Carried.{CarriedTo, AlongV}
 use Rattle.passive.proofs.SliceLaws.{rows_end}
-use Rattle.patch.specs.Steps.{midway}
 use Rattle.carry.proofs.ChildLaws.{zeros-small}
 use Rattle.carry.proofs.CarryLaws.{parents-fit, columns-few, columns-odd, Holds, held, holds-within, row-carried}
 use Rattle.carry.proofs.fill_level.Goals.{After-places, In-loop-b}
@@ -29,14 +27,14 @@ begins c =
     (sym (start-step a.w a.h a.coarse))
 
 pub loop-b-init : goal.loop-b-init
-loop-b-init c =    let a = c.args in (
-      omega arith,
-      begins (goal.at.loop-b-init c).After-places ∙ rows_none _ c.functions-n.result,
-      subst (λ k. CarriedTo k a.w a.h a.rows.now a.numbers.now a.out.now) (sym (begins (goal.at.loop-b-init c).After-places))
-          c.requires.6,
-      refl,
-      zeros-small,
-    )
+loop-b-init c = let a = c.args in (
+  omega arith,
+  begins (goal.at.loop-b-init c).After-places ∙ rows_none _ c.functions-n.result,
+  subst (λ k. CarriedTo k a.w a.h a.rows.now a.numbers.now a.out.now) (sym (begins (goal.at.loop-b-init c).After-places))
+      c.requires.6,
+  refl,
+  zeros-small,
+)
 
 -- a turn's row is one of the level's, and inside the slices
 row : (c : In-loop-b)
@@ -76,11 +74,11 @@ coarser c =
     c.places.ensures.0 (reach c) (omega (arith, c.loop-b.invariant.1)) c.loop-b.invariant.2
 
 pub region_row-inside-requires : goal.region_row-inside-requires
-region_row-inside-requires c =    let p = c.requires in
+region_row-inside-requires c = let p = c.requires in
     (p.0, p.1, omega (arith, p.2), row c, omega arith, omega (arith, p.2), p.4)
 
 pub along_v-requires : goal.along_v-requires
-along_v-requires c =    let a = c.args in
+along_v-requires c = let a = c.args in
     let h = coarser (goal.at.along_v-requires c).In-loop-b in (
       omega (arith, c.functions-columns.ensures.0, columns-few a.w a.coarse c.requires.0 c.requires.2),
       rw h.size
@@ -92,7 +90,7 @@ along_v-requires c =    let a = c.args in
     )
 
 pub fill_row-requires : goal.fill_row-requires
-fill_row-requires c =    let n = c.functions-n.result in
+fill_row-requires c = let n = c.functions-n.result in
     let from = c.loop-b.from in
     let count = part_length from n c.loop-b.out (omega (arith, inside (goal.at.fill_row-requires c).In-loop-b, same (goal.at.fill_row-requires c).In-loop-b)) in (
       omega (arith, count, c.functions-n.ensures.1),
@@ -103,7 +101,7 @@ fill_row-requires c =    let n = c.functions-n.result in
     )
 
 pub loop-b-preserved : goal.loop-b-preserved
-loop-b-preserved c =    let loop = c.loop-b in
+loop-b-preserved c = let loop = c.loop-b in
     let a = c.args in
     let sums : AlongV (functions a.w a.coarse) (functions a.w a.coarse) loop.b
     (part c.start-low.result c.places.result loop.out) c.along_v.new.sums =
@@ -120,10 +118,10 @@ loop-b-preserved c =    let loop = c.loop-b in
     )
 
 pub shape_of-out : goal.shape_of-out
-shape_of-out c =    c.loop-b.invariant.2.size ∙ sym c.requires.6.size
+shape_of-out c = c.loop-b.invariant.2.size ∙ sym c.requires.6.size
 
 pub returns : goal.returns
-returns c =    let loop = c.loop-b in
+returns c = let loop = c.loop-b in
     let a = c.args in
     let next : a.coarse + 1 + 1 ≡ a.coarse + 2 = omega arith in
     subst (λ k. CarriedTo k a.w a.h a.rows.now a.numbers.now loop.out)

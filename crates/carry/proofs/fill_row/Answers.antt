@@ -1,24 +1,21 @@
 -- Before each turn the places below 2 k hold their carried values.
 use mathlib.Core.Path.{◌≡◌, sym, ap, ◌∙◌}
-use mathlib.Core.List.{List}
-use Prim.Native.Nat.{◌≤◌, ◌<◌, ◌+◌, ◌-◌, ◌*◌}
+use Prim.Native.Nat.{◌<◌, ◌+◌, ◌*◌}
 use native.Mathlib.Omega.{arith}
 use borrow.Author.Rules.{rules}
-use lib.IntN.{ℤ}
 use lib.ListN.{length, length-set}
 use Rattle.finite.specs.Range.{table_from}
 use Rattle.activity.proofs.StepLaws.{marks-next}
-use Rattle.carry.specs.Carried.{carried_if}
-use Rattle.passive.proofs.RowLaws.{Rule, mapped, Turn, turn-none, turn-set, turn-all}
+use Rattle.passive.proofs.RowLaws.{mapped, turn-none, turn-set, turn-all}
 use Rattle.carry.proofs.fill_row.Invariants.{rule}
 use Rattle.carry.proofs.fill_row.Goals as goal
 
 pub put-requires-in-loop-k : goal.put-requires-in-loop-k
-put-requires-in-loop-k c =    let same = simp length-set at (ap length c.put.ensures) in
+put-requires-in-loop-k c = let same = simp length-set at (ap length c.put.ensures) in
     (omega arith, omega arith, omega arith, c.requires.4)
 
 pub loop-k-preserved : goal.loop-k-preserved
-loop-k-preserved c =    let loop = c.loop-k in
+loop-k-preserved c = let loop = c.loop-k in
     let g = c.args in
     let k = loop.k in
     let within : 2 * k + 1 < length g.row.now = omega arith in
@@ -32,7 +29,7 @@ loop-k-preserved c =    let loop = c.loop-k in
     )
 
 pub returns : goal.returns
-returns c =    let loop = c.loop-k in
+returns c = let loop = c.loop-k in
     let g = c.args in
     let f = mapped (rule g.sums.now) g.e g.inside g.own.now in
     turn-all (rule g.sums.now) g.e g.inside g.own.now g.row.now (2 * loop.k + 1) (omega arith)

@@ -1,14 +1,8 @@
-use mathlib.Core.Path.{◌≡◌, sym, ap, ◌∙◌}
 use mathlib.Core.List.{List}
-use Prim.Native.Nat.{◌≤◌, ◌<◌, ◌+◌, ◌-◌, ◌*◌}
-use native.Mathlib.Omega.{arith}
-use borrow.Author.Rules.{rules}
+use Prim.Native.Nat.{◌≤◌, ◌-◌, ◌*◌}
 use lib.IntN.{ℤ}
-use lib.ListN.{length, length-set}
-use Rattle.finite.specs.Range.{table_from}
-use Rattle.activity.proofs.StepLaws.{marks-next}
 use Rattle.carry.specs.Carried.{carried_if}
-use Rattle.passive.proofs.RowLaws.{Rule, mapped, Turn, turn-none, turn-set, turn-all}
+use Rattle.passive.proofs.RowLaws.{Rule, Turn}
 use Rattle.carry.proofs.fill_row.Given as goal
 
 abbrev pub rule : List ℤ → Rule

@@ -2,7 +2,6 @@
 use mathlib.Core.Path.{◌≡◌, sym, ap, ◌∙◌}
 use Prim.Native.Nat.{◌+◌, ◌-◌, ◌*◌, ◌/◌, ◌%◌}
 use native.Mathlib.Omega.{arith}
-use borrow.Author.Rules.{rules}
 use Rattle.surface.specs.Sheet.{functions}
 use Rattle.activity.proofs.WindowLaws.{functions-le, eighths-le}
 use Rattle.carry.specs.Carried.{AlongV}
@@ -10,7 +9,7 @@ use Rattle.carry.proofs.CarryLaws.{columns-few, columns-odd, next_row}
 use Rattle.carry.proofs.next_row.Goals as goal
 
 pub along_v-requires : goal.along_v-requires
-along_v-requires c =    let a = c.args in
+along_v-requires c = let a = c.args in
     let n = c.functions.ensures.0 in
     let few = columns-few a.w a.level c.requires.0 c.requires.2 in
     let rows : (a.b - 2 * a.first) / 2 + (a.b - 2 * a.first) % 2 + 2 ≡ a.b / 2 - a.first + a.b % 2 + 2 =
@@ -23,7 +22,7 @@ along_v-requires c =    let a = c.args in
     )
 
 pub fill_row-requires : goal.fill_row-requires
-fill_row-requires c =    let a = c.args in
+fill_row-requires c = let a = c.args in
     let size = c.requires.7 in (
       omega (arith, size, functions-le a.w (a.level + 1) c.requires.0 (omega (arith, c.requires.2))),
       ap (λ k. k % 2) size ∙ columns-odd a.w a.level,
@@ -33,7 +32,7 @@ fill_row-requires c =    let a = c.args in
     )
 
 pub returns : goal.returns
-returns c =    let a = c.args in
+returns c = let a = c.args in
     let sums : AlongV (functions a.w a.level) (functions a.w a.level) (a.b - 2 * a.first) a.coarse.now
     c.along_v.new.sums = rw c.functions.ensures.0 at c.along_v.ensures in (
       next_row a.w a.h a.level a.b a.first c.eighths.result a.rows.now

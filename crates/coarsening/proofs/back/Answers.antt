@@ -4,8 +4,7 @@ use mathlib.Core.Bool.{true≢false}
 use Prim.Native.Nat.{◌+◌, ◌*◌, ◌^◌, ◌≤◌}
 use native.Mathlib.Nat.{le_trans, pow-le-pow_right, mul-le-mul_left}
 use native.Mathlib.Omega.{arith}
-use borrow.Author.Rules.{rules, sfits_of}
-use borrow.Author.Tests.{not-true, not-false}
+use borrow.Author.Rules.{sfits_of}
 use lib.IntN.{pos}
 use mir.Syntax.{w64}
 use mir.Val.{to_z, of_z}
@@ -18,7 +17,7 @@ use Rattle.coarsening.proofs.back.Goals.{After-limit}
 use Rattle.coarsening.proofs.back.Goals as goal
 
 pub around-finer-requires : goal.around-finer-requires
-around-finer-requires c =    let a = c.args in
+around-finer-requires c = let a = c.args in
     let L = a.level + 1 in
     let n = c.functions-n.ensures.0 in
     let cx = cell-fits a.w L a.q (omega (arith, c.requires.2)) c.requires.3 in
@@ -33,7 +32,7 @@ around-finer-requires c =    let a = c.args in
     )
 
 pub of_patch-patch-requires : goal.of_patch-patch-requires
-of_patch-patch-requires c =    let a = c.args in
+of_patch-patch-requires c = let a = c.args in
     let L = a.level + 1 in
     let cx = cell-fits a.w L a.q (omega (arith, c.requires.2)) c.requires.3 in
     let cy = cell-fits a.h L a.r (omega (arith, c.requires.2)) c.requires.4 in (
@@ -52,12 +51,12 @@ bound : (c : After-limit)
 bound c = to_z-of_z w64 c.limit.result (sfits_of c.limit.type_inv) ∙ c.limit.ensures
 
 pub within-requires : goal.within-requires
-within-requires c =    let L = c.args.level in
+within-requires c = let L = c.args.level in
     let power : 64 ^ L ≤ 4096 = pow-le-pow_right {n = 64} (omega arith) {i = L} {j = 2} c.requires.2 in
     (limit L, bound c, omega (arith, mul-le-mul_left 32000 power))
 
 pub returns-then-not-within : goal.returns-then-not-within
-returns-then-not-within c =    let a = c.args in
+returns-then-not-within c = let a = c.args in
     let F = finer a.level a.body.now a.fine.now (functions a.w (a.level + 1)) in (
       λ e. absurd (true≢false (sym e)),
       λ _ C step. step_past a.w a.h a.level a.q a.r C c.of_patch-patch.result c.requires.2 c.requires.3
@@ -69,7 +68,7 @@ returns-then-not-within c =    let a = c.args in
     )
 
 pub put_patch-requires : goal.put_patch-requires
-put_patch-requires c =    let a = c.args in
+put_patch-requires c = let a = c.args in
     let n = c.functions-m.ensures.0 in
     let cx = cell-fits a.w a.level a.q (omega (arith, c.requires.2)) c.requires.3 in
     let cy = cell-fits a.h a.level a.r (omega (arith, c.requires.2)) c.requires.4 in
@@ -80,7 +79,7 @@ put_patch-requires c =    let a = c.args in
     )
 
 pub returns : goal.returns
-returns c =    let a = c.args in
+returns c = let a = c.args in
     let F = finer a.level a.body.now a.fine.now (functions a.w (a.level + 1)) in (
       λ _. record {
         patch = c.of_patch-patch.result;

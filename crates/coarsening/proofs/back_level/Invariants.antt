@@ -1,16 +1,7 @@
-use mathlib.Core.Path.{◌≡◌, sym, ap, ◌∙◌}
-use mathlib.Core.Bool.{true≢false}
 use Prim.Native.Nat.{◌+◌, ◌-◌, ◌≤◌, ◌<◌}
-use native.Mathlib.Omega.{arith}
-use borrow.Author.Rules.{rules}
-use borrow.Author.Tests.{not-true, not-false}
-use lib.IntN.{pos}
-use lib.ListN.{length, length-replicate}
 use Rattle.surface.specs.Sheet.{functions}
-use Rattle.surface.specs.Table.{places}
 use Rattle.rows.specs.Rows.{levels_of}
 use Rattle.coarsening.specs.Coarser.{cell_at, finer, Backed}
-use Rattle.coarsening.proofs.BackLaws.{backed-none, backed-all}
 use Rattle.coarsening.proofs.back_level.Given as goal
 
 abbrev pub invariant-loop-y : goal.invariant-loop-y

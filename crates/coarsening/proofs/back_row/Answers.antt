@@ -4,14 +4,13 @@ use mathlib.Core.Bool.{true, true≢false}
 use mathlib.Core.Logic.{⊎_elim}
 use Prim.Native.Nat.{◌+◌, ◌-◌, ◌≤◌}
 use native.Mathlib.Omega.{arith}
-use borrow.Author.Rules.{rules}
-use borrow.Author.Tests.{not-true, not-false, ltb-false}
+use borrow.Author.Tests.{not-true, not-false}
 use lib.ListN.{length}
 use Rattle.surface.specs.Sheet.{functions}
 use Rattle.rows.specs.Rows.{levels_of}
-use Rattle.coarsening.specs.Coarser.{cell_at, finer}
+use Rattle.coarsening.specs.Coarser.{cell_at}
 use Rattle.coarsening.proofs.BackLaws.{quarter-fits, side-fits}
-use Rattle.coarsening.proofs.RowLaws.{Of, Met, met-none, met-empty, met-left, met-taken, row-taken, row-none}
+use Rattle.coarsening.proofs.RowLaws.{Of, met-none, met-empty, met-left, met-taken, row-taken, row-none}
 use Rattle.coarsening.proofs.back_row.Goals.{After-loop-next, At-loop-next, Else-not-square, Else-not-waiting, Then-waiting}
 use Rattle.coarsening.proofs.back_row.Goals as goal
 
@@ -21,24 +20,24 @@ wide : (c : At-loop-next)
 wide c = let f = c.functions-columns.ensures in omega (arith, f)
 
 pub loop-next-init : goal.loop-next-init
-loop-next-init c =    let a = c.args in (
-      omega arith,
-      met-none a.w a.h (levels_of a.rows.now) a.level _ c.requires.2 a.y _ _ refl c.requires.4,
-    )
+loop-next-init c = let a = c.args in (
+  omega arith,
+  met-none a.w a.h (levels_of a.rows.now) a.level _ c.requires.2 a.y _ _ refl c.requires.4,
+)
 
 pub find-square-requires : goal.find-square-requires
-find-square-requires c =    let a = c.args in (
-      c.requires.2,
-      side-fits a.w a.level c.loop-next.next c.requires.0 c.requires.2 (omega (arith, wide (goal.at.find-square-requires c).At-loop-next, c.loop-next-test.true)),
-      side-fits a.h a.level a.y c.requires.1 c.requires.2 c.requires.3,
-    )
+find-square-requires c = let a = c.args in (
+  c.requires.2,
+  side-fits a.w a.level c.loop-next.next c.requires.0 c.requires.2 (omega (arith, wide (goal.at.find-square-requires c).At-loop-next, c.loop-next-test.true)),
+  side-fits a.h a.level a.y c.requires.1 c.requires.2 c.requires.3,
+)
 
 pub loop-next-preserved-then-not-square : goal.loop-next-preserved-then-not-square
-loop-next-preserved-then-not-square c =    let a = c.args in (
-      omega (arith, c.loop-next-test.true),
-      met-empty a.w a.h (levels_of a.rows.now) a.level _ c.requires.2 a.y _ _ c.loop-next.next
-          c.loop-next.coarse (c.find-square.ensures.1 (not-true _ c.if-not-square.true)) c.loop-next.invariant.1,
-    )
+loop-next-preserved-then-not-square c = let a = c.args in (
+  omega (arith, c.loop-next-test.true),
+  met-empty a.w a.h (levels_of a.rows.now) a.level _ c.requires.2 a.y _ _ c.loop-next.next
+      c.loop-next.coarse (c.find-square.ensures.1 (not-true _ c.if-not-square.true)) c.loop-next.invariant.1,
+)
 
 -- the square that was found
 square : (c : Else-not-square)
@@ -68,22 +67,22 @@ waits : (c : Then-waiting)
 waits c = c.loop-next.invariant.1.waits c.if-waiting.true
 
 pub back-requires : goal.back-requires
-back-requires c =    let o = waits (goal.at.back-requires c).Then-waiting in
+back-requires c = let o = waits (goal.at.back-requires c).Then-waiting in
     (c.requires.0, c.requires.1, c.requires.2, o.column, o.row, c.loop-next.invariant.1.above.size, c.requires.5, c.requires.6)
 
 pub returns-then-not-back : goal.returns-then-not-back
-returns-then-not-back c =    let o = waits (goal.at.returns-then-not-back c).Then-waiting in (
-      λ t. absurd (true≢false (sym t)),
-      λ _ C coarser. c.back.ensures.1 c.if-not-back.true C
-          (coarser c.loop-next.waiting.q c.loop-next.waiting.r o.column o.row o.low),
-    )
+returns-then-not-back c = let o = waits (goal.at.returns-then-not-back c).Then-waiting in (
+  λ t. absurd (true≢false (sym t)),
+  λ _ C coarser. c.back.ensures.1 c.if-not-back.true C
+      (coarser c.loop-next.waiting.q c.loop-next.waiting.r o.column o.row o.low),
+)
 
 pub cell_at-done-requires : goal.cell_at-done-requires
-cell_at-done-requires c =    let o = waits (goal.at.cell_at-done-requires c).Then-waiting in
+cell_at-done-requires c = let o = waits (goal.at.cell_at-done-requires c).Then-waiting in
     (omega (arith, c.requires.2), omega (arith, c.requires.0, o.column))
 
 pub loop-next-preserved-else-not-back : goal.loop-next-preserved-else-not-back
-loop-next-preserved-else-not-back c =    let a = c.args in
+loop-next-preserved-else-not-back c = let a = c.args in
     let (found, at, o) = square (goal.at.loop-next-preserved-else-not-back c).Else-not-square in (
       omega (arith, c.loop-next-test.true),
       met-taken a.w a.h (levels_of a.rows.now) a.level _ c.requires.2 a.y c.loop-next.waiting
@@ -93,7 +92,7 @@ loop-next-preserved-else-not-back c =    let a = c.args in
     )
 
 pub loop-next-preserved : goal.loop-next-preserved
-loop-next-preserved c =    let a = c.args in
+loop-next-preserved c = let a = c.args in
     let (found, at, o) = square (goal.at.loop-next-preserved c).Else-not-square in (
       omega (arith, c.loop-next-test.true),
       met-left a.w a.h (levels_of a.rows.now) a.level _ c.requires.2 a.y c.loop-next.waiting _
@@ -108,11 +107,11 @@ whole : (c : After-loop-next)
 whole c = omega (arith, c.functions-columns.ensures, c.loop-next-test.false)
 
 pub returns-then-not-waiting : goal.returns-then-not-waiting
-returns-then-not-waiting c =    let a = c.args in (
-      λ _. row-none a.w a.h (levels_of a.rows.now) a.level _ c.requires.2 a.y c.loop-next.waiting
-          c.loop-next.done c.loop-next.next c.loop-next.coarse (not-true _ c.if-not-waiting.true) (whole (goal.at.returns-then-not-waiting c).After-loop-next) c.loop-next.invariant.1,
-      λ t. absurd (true≢false t),
-    )
+returns-then-not-waiting c = let a = c.args in (
+  λ _. row-none a.w a.h (levels_of a.rows.now) a.level _ c.requires.2 a.y c.loop-next.waiting
+      c.loop-next.done c.loop-next.next c.loop-next.coarse (not-true _ c.if-not-waiting.true) (whole (goal.at.returns-then-not-waiting c).After-loop-next) c.loop-next.invariant.1,
+  λ t. absurd (true≢false t),
+)
 
 -- the last square that waits
 last : (c : Else-not-waiting)
@@ -124,11 +123,11 @@ last c =
     (found, c.loop-next.invariant.1.waits found)
 
 pub back-requires-2 : goal.back-requires-2
-back-requires-2 c =    let o = (last (goal.at.back-requires-2 c).Else-not-waiting).1 in
+back-requires-2 c = let o = (last (goal.at.back-requires-2 c).Else-not-waiting).1 in
     (c.requires.0, c.requires.1, c.requires.2, o.column, o.row, c.loop-next.invariant.1.above.size, c.requires.5, c.requires.6)
 
 pub returns : goal.returns
-returns c =    let a = c.args in
+returns c = let a = c.args in
     let (found, o) = last (goal.at.returns c).Else-not-waiting in (
       λ t. row-taken a.w a.h (levels_of a.rows.now) a.level _ c.requires.2 a.y c.loop-next.waiting
           c.loop-next.done c.loop-next.next c.loop-next.coarse _ found (c.back-2.ensures.0 t) c.loop-next.invariant.1
@@ -143,7 +142,7 @@ kept : (c : At-loop-next)
 kept c = c.loop-next.invariant.1.above.size ∙ sym c.requires.4.size
 
 pub shape_of-coarse-then-not-back : goal.shape_of-coarse-then-not-back
-shape_of-coarse-then-not-back c =    c.coarse-1.given ∙ kept (goal.at.shape_of-coarse-then-not-back c).At-loop-next
+shape_of-coarse-then-not-back c = c.coarse-1.given ∙ kept (goal.at.shape_of-coarse-then-not-back c).At-loop-next
 
 pub shape_of-coarse : goal.shape_of-coarse
 shape_of-coarse c = c.coarse-2-1.given ∙ kept (goal.at.shape_of-coarse c).At-loop-next

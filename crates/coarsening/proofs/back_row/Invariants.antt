@@ -1,16 +1,8 @@
-use mathlib.Core.Path.{◌≡◌, refl, sym, ◌∙◌}
-use mathlib.Core.Bool.{true, true≢false}
-use mathlib.Core.Logic.{⊎_elim}
 use Prim.Native.Nat.{◌+◌, ◌-◌, ◌≤◌}
-use native.Mathlib.Omega.{arith}
-use borrow.Author.Rules.{rules}
-use borrow.Author.Tests.{not-true, not-false, ltb-false}
-use lib.ListN.{length}
 use Rattle.surface.specs.Sheet.{functions}
 use Rattle.rows.specs.Rows.{levels_of}
-use Rattle.coarsening.specs.Coarser.{cell_at, finer}
-use Rattle.coarsening.proofs.BackLaws.{quarter-fits, side-fits}
-use Rattle.coarsening.proofs.RowLaws.{Of, Met, met-none, met-empty, met-left, met-taken, row-taken, row-none}
+use Rattle.coarsening.specs.Coarser.{finer}
+use Rattle.coarsening.proofs.RowLaws.{Met}
 use Rattle.coarsening.proofs.back_row.Given as goal
 
 abbrev pub invariant-loop-next : goal.invariant-loop-next

@@ -1,17 +1,16 @@
 -- `fill` meets its contract: after i turns the first i places have the number.
 use mathlib.Core.Path.{◌≡◌, refl, ap, ap₂, ◌∙◌}
-use Prim.Native.Nat.{◌≤◌, ◌-◌}
 use native.Mathlib.Omega.{arith}
 use lib.ListN.{length, replicate, set, length-set}
 use mir.Syntax.{w64}
 use mir.Val.{to_z, of_z}
 use mir.ValLaws.{to_z-of_z}
 use Rattle.finite.proofs.Table.{table-const}
-use Rattle.finite.proofs.Written.{written, written_none, written-more, written_all}
+use Rattle.finite.proofs.Written.{written_none, written-more, written_all}
 use Rattle.coefficients.proofs.fill.Goals as goal
 
 pub loop-i-preserved : goal.loop-i-preserved
-loop-i-preserved c =    let loop = c.loop-i in
+loop-i-preserved c = let loop = c.loop-i in
     let args = c.args in
     let z = to_z w64 (of_z w64 args.number) in (
       omega arith,
@@ -21,7 +20,7 @@ loop-i-preserved c =    let loop = c.loop-i in
     )
 
 pub returns : goal.returns
-returns c =    let loop = c.loop-i in
+returns c = let loop = c.loop-i in
     let number = c.args.number in
     let all : loop.i ≡ length c.args.s.now = omega arith in
     loop.invariant.2

@@ -1,12 +1,7 @@
-use mathlib.Core.Path.{◌≡◌, refl, ap, ap₂, ◌∙◌}
+use mathlib.Core.Path.{◌≡◌}
 use Prim.Native.Nat.{◌≤◌, ◌-◌}
-use native.Mathlib.Omega.{arith}
-use lib.ListN.{length, replicate, set, length-set}
-use mir.Syntax.{w64}
-use mir.Val.{to_z, of_z}
-use mir.ValLaws.{to_z-of_z}
-use Rattle.finite.proofs.Table.{table-const}
-use Rattle.finite.proofs.Written.{written, written_none, written-more, written_all}
+use lib.ListN.{length}
+use Rattle.finite.proofs.Written.{written}
 use Rattle.coefficients.proofs.fill.Given as goal
 
 abbrev pub invariant-loop-i : goal.invariant-loop-i

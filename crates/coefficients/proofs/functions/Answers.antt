@@ -1,6 +1,5 @@
 use native.Mathlib.Omega.{arith}
 use Rattle.coefficients.proofs.Sizes.{functions-at}
-use borrow.Author.Rules.{rules}
 use Rattle.coefficients.proofs.functions.Goals as goal
 
 pub returns-then-level-eq0 : goal.returns-then-level-eq0

@@ -1,6 +1,5 @@
 -- Each way out of `outputs_cause` gives the lowest of 16 and 17.
 use mathlib.Core.Path.{◌≡◌, sym, ap, ◌∙◌}
-use borrow.Author.Rules.{rules}
 use borrow.Author.Tests.{eq-eqb, ne_eqb, lt-ltb, le-ltb}
 use Rattle.surface.specs.Table.{cause, slots}
 use Rattle.surface.specs.Calls.{length_cause}

@@ -2,7 +2,6 @@ use mathlib.Core.Path.{ap₂}
 use Prim.Native.Nat.{◌*◌}
 use native.Mathlib.Nat.{mul-le-mul}
 use native.Mathlib.Omega.{arith}
-use borrow.Author.Rules.{rules}
 use Rattle.coefficients.proofs.places.Goals as goal
 
 pub overflow_mul-result : goal.overflow_mul-result
@@ -12,7 +11,6 @@ overflow_mul-result c = record {
     mul-le-mul c.functions.ensures.1
         c.functions-2.ensures.1,
   );
-
 }
 
 pub returns : goal.returns

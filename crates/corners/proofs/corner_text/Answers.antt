@@ -3,11 +3,10 @@ use Prim.Native.Nat.{◌≤◌}
 use native.Mathlib.Omega.{arith}
 use lib.ListN.{length}
 use lib.Seq.{length-take-le}
-use borrow.Author.Rules.{rules}
 use Rattle.corners.proofs.corner_text.Goals as goal
 
 pub returns : goal.returns
-returns c =    let r = c.text_into.result in
+returns c = let r = c.text_into.result in
     let o = c.text_into.new.out in
     let e = c.text_into.ensures in
     let fits : r ≤ length o = omega (arith, e.1, c.text_into.auto.out, c.requires) in

@@ -1,16 +1,13 @@
 -- Before each turn the lines of the corners up to u are put.
 use mathlib.Core.Path.{◌≡◌, refl, ap, ◌∙◌, subst}
-use mathlib.Core.List.{List}
-use Prim.Native.Nat.{ℕ, ◌+◌, ◌-◌, ◌*◌, ◌≤◌, ◌<◌}
+use Prim.Native.Nat.{◌+◌, ◌≤◌, ◌<◌}
 use native.Mathlib.Omega.{arith}
 use lib.ListN.{length}
 use mir.Syntax.{w64}
 use mir.Val.{to_z, of_z}
 use mir.ValLaws.{to_z-of_z}
 use borrow.Author.Rules.{sfits_of}
-use Rattle.surface.specs.Table.{Acceptable}
 use Rattle.surface.proofs.TableLaws.{sound, sides}
-use Rattle.rows.specs.Rows.{level_rows}
 use Rattle.finite.specs.Range.{joined}
 use Rattle.text.specs.Text.{line}
 use Rattle.corners.specs.Text.{corner_line}
@@ -24,15 +21,15 @@ within : (c : Start) → let a = c.args in (0 < a.w) × (a.w ≤ 8) × (0 < a.h)
 within c = sides (sound c.args.w c.args.h c.requires.1.0 c.args.numbers.now c.requires.1.2)
 
 pub loop-u-init : goal.loop-u-init
-loop-u-init c =    let a = c.args in (
-      omega arith,
-      refl,
-      omega arith,
-      λ t e h. put-none (corner_line a.w a.h t a.numbers.now a.v) a.start a.out.now,
-    )
+loop-u-init c = let a = c.args in (
+  omega arith,
+  refl,
+  omega arith,
+  λ t e h. put-none (corner_line a.w a.h t a.numbers.now a.v) a.start a.out.now,
+)
 
 pub watts_at-watts-requires : goal.watts_at-watts-requires
-watts_at-watts-requires c =    let p = c.requires in (c.loop-u-test.true, p.0, p.1)
+watts_at-watts-requires c = let p = c.requires in (c.loop-u-test.true, p.0, p.1)
 
 -- the watts as the machine holds them, and the length of their line
 as-held : (c : After-watts_at-watts)
@@ -48,24 +45,24 @@ short c =
     (omega (arith, c.requires.0)) c.watts_at-watts.ensures.1)
 
 pub line-at-requires : goal.line-at-requires
-line-at-requires c =    omega (
-      arith,
-      short (goal.at.line-at-requires c).After-watts_at-watts,
-      within (goal.at.line-at-requires c).Start,
-      c.loop-u-test.true,
-      c.loop-u.invariant.1,
-      c.loop-u.invariant.2,
-      c.requires.2,
-    )
+line-at-requires c = omega (
+  arith,
+  short (goal.at.line-at-requires c).After-watts_at-watts,
+  within (goal.at.line-at-requires c).Start,
+  c.loop-u-test.true,
+  c.loop-u.invariant.1,
+  c.loop-u.invariant.2,
+  c.requires.2,
+)
 
 pub overflow_add-u : goal.overflow_add-u
 overflow_add-u c = omega (arith, within (goal.at.overflow_add-u c).Start)
 
 pub loop-u-smaller : goal.loop-u-smaller
-loop-u-smaller c =    omega (arith, c.loop-u-test.true)
+loop-u-smaller c = omega (arith, c.loop-u-test.true)
 
 pub loop-u-preserved : goal.loop-u-preserved
-loop-u-preserved c =    let a = c.args in
+loop-u-preserved c = let a = c.args in
     let z = c.watts_at-watts.result in
     let text = line c.loop-u.u a.v (to_z w64 (of_z w64 z)) in (
       omega (arith, c.loop-u-test.true),
@@ -82,7 +79,7 @@ pub shape_of-out : goal.shape_of-out
 shape_of-out c = c.loop-u.invariant.1
 
 pub returns : goal.returns
-returns c =    let a = c.args in
+returns c = let a = c.args in
     let all : c.loop-u.u ≡ a.w + 1 = omega (arith, c.loop-u-test.false, c.loop-u.invariant.0) in (
       λ t e h.
           subst

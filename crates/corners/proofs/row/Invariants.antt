@@ -1,21 +1,12 @@
-use mathlib.Core.Path.{◌≡◌, refl, ap, ◌∙◌, subst}
+use mathlib.Core.Path.{◌≡◌}
 use mathlib.Core.List.{List}
-use Prim.Native.Nat.{ℕ, ◌+◌, ◌-◌, ◌*◌, ◌≤◌, ◌<◌}
-use native.Mathlib.Omega.{arith}
+use Prim.Native.Nat.{ℕ, ◌+◌, ◌-◌, ◌*◌, ◌≤◌}
 use lib.ListN.{length}
-use mir.Syntax.{w64}
-use mir.Val.{to_z, of_z}
-use mir.ValLaws.{to_z-of_z}
-use borrow.Author.Rules.{sfits_of}
 use Rattle.surface.specs.Table.{Acceptable}
-use Rattle.surface.proofs.TableLaws.{sound, sides}
 use Rattle.rows.specs.Rows.{level_rows}
 use Rattle.finite.specs.Range.{joined}
-use Rattle.text.specs.Text.{line}
 use Rattle.corners.specs.Text.{corner_line}
 use Rattle.fields.specs.Put.{Put}
-use Rattle.fields.proofs.PutLaws.{put_next, put-none}
-use Rattle.text.proofs.TextLaws.{line-short}
 use Rattle.corners.proofs.row.Given as goal
 
 abbrev pub invariant-loop-u : goal.invariant-loop-u

@@ -1,11 +1,10 @@
 -- Before each turn the rows up to v are put after the header.
 use mathlib.Core.Path.{◌≡◌, refl, ap₂, ◌∙◌, subst}
 use mathlib.Core.List.{List, ◌++◌}
-use Prim.Native.Nat.{ℕ, ◌+◌, ◌-◌, ◌*◌, ◌≤◌, ◌<◌}
+use Prim.Native.Nat.{ℕ, ◌+◌, ◌≤◌, ◌<◌}
 use native.Mathlib.Numerals.{add-one}
 use native.Mathlib.Omega.{arith}
 use lib.IntN.{ℤ}
-use lib.ListN.{length}
 use Rattle.surface.proofs.TableLaws.{sound, sides}
 use Rattle.finite.specs.Range.{joined}
 use Rattle.rows.specs.Rows.{level_rows}
@@ -42,38 +41,38 @@ pub header-at-requires : goal.header-at-requires
 header-at-requires c = omega (arith, c.requires.1)
 
 pub loop-v-init : goal.loop-v-init
-loop-v-init c =    let a = c.args in (
-      omega arith,
-      refl,
-      omega arith,
-      put-none (λ v. joined (a.w + 1) (corner_line a.w a.h a.tree.now a.numbers.now v))
-          c.header-at.result c.header-at.new.out,
-    )
+loop-v-init c = let a = c.args in (
+  omega arith,
+  refl,
+  omega arith,
+  put-none (λ v. joined (a.w + 1) (corner_line a.w a.h a.tree.now a.numbers.now v))
+      c.header-at.result c.header-at.new.out,
+)
 
 pub row-at-requires : goal.row-at-requires
-row-at-requires c =    let taken = c.loop-v-test.true in (
-      taken,
-      (c.args.tree.now, painted (goal.at.row-at-requires c).After-regions, c.requires.0),
-      omega (
-        arith,
-        taken,
-        within (goal.at.row-at-requires c).Start,
-        c.loop-v.invariant.1,
-        c.loop-v.invariant.2,
-        c.header-at.ensures.0,
-        c.header-at.auto.out,
-        c.requires.1,
-      ),
-    )
+row-at-requires c = let taken = c.loop-v-test.true in (
+  taken,
+  (c.args.tree.now, painted (goal.at.row-at-requires c).After-regions, c.requires.0),
+  omega (
+    arith,
+    taken,
+    within (goal.at.row-at-requires c).Start,
+    c.loop-v.invariant.1,
+    c.loop-v.invariant.2,
+    c.header-at.ensures.0,
+    c.header-at.auto.out,
+    c.requires.1,
+  ),
+)
 
 pub overflow_add-v : goal.overflow_add-v
-overflow_add-v c =    omega (arith, c.loop-v.invariant.0, within (goal.at.overflow_add-v c).Start)
+overflow_add-v c = omega (arith, c.loop-v.invariant.0, within (goal.at.overflow_add-v c).Start)
 
 pub loop-v-smaller : goal.loop-v-smaller
 loop-v-smaller c = omega (arith, c.loop-v-test.true)
 
 pub loop-v-preserved : goal.loop-v-preserved
-loop-v-preserved c =    let a = c.args in
+loop-v-preserved c = let a = c.args in
     let rows : ℕ → List ℕ = λ v. joined (a.w + 1) (corner_line a.w a.h a.tree.now a.numbers.now v) in (
       omega (arith, c.loop-v-test.true),
       c.row-at.auto.out ∙ c.loop-v.invariant.1,
@@ -88,7 +87,7 @@ pub shape_of-out : goal.shape_of-out
 shape_of-out c = c.loop-v.invariant.1 ∙ c.header-at.auto.out
 
 pub returns : goal.returns
-returns c =    let a = c.args in
+returns c = let a = c.args in
     let rows : ℕ → List ℕ = λ v. joined (a.w + 1) (corner_line a.w a.h a.tree.now a.numbers.now v) in
     let all : c.loop-v.v ≡ a.h + 1 = omega (arith, c.loop-v-test.false, c.loop-v.invariant.0) in
     let r = c.header-at.result in

@@ -1,19 +1,9 @@
-use mathlib.Core.Path.{◌≡◌, refl, ap₂, ◌∙◌, subst}
-use mathlib.Core.List.{List, ◌++◌}
-use Prim.Native.Nat.{ℕ, ◌+◌, ◌-◌, ◌*◌, ◌≤◌, ◌<◌}
-use native.Mathlib.Numerals.{add-one}
-use native.Mathlib.Omega.{arith}
-use lib.IntN.{ℤ}
+use mathlib.Core.Path.{◌≡◌}
+use Prim.Native.Nat.{◌+◌, ◌-◌, ◌*◌, ◌≤◌}
 use lib.ListN.{length}
-use Rattle.surface.proofs.TableLaws.{sound, sides}
 use Rattle.finite.specs.Range.{joined}
-use Rattle.rows.specs.Rows.{level_rows}
-use Rattle.text.specs.Text.{header}
-use Rattle.corners.specs.Text.{corner_line, table_text}
+use Rattle.corners.specs.Text.{corner_line}
 use Rattle.fields.specs.Put.{Put}
-use Rattle.corners.proofs.CornerLaws.{tree-of}
-use Rattle.fields.proofs.PutLaws.{put_both}
-use Rattle.fields.proofs.PutLaws.{put_next, put-none}
 use Rattle.corners.proofs.table_text.Given as goal
 
 abbrev pub invariant-loop-v : goal.invariant-loop-v

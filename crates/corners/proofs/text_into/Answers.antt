@@ -11,7 +11,6 @@ use Rattle.corners.specs.Text.{table_text, corner_text}
 use Rattle.fields.specs.Put.{Put}
 use Rattle.corners.proofs.CornerLaws.{loaded-fits}
 use Rattle.corners.proofs.FileText.{loaded-text, refused-text}
-use borrow.Author.Rules.{rules}
 use Rattle.corners.proofs.text_into.Goals.{In-Loaded}
 use Rattle.corners.proofs.text_into.Goals as goal
 
@@ -26,12 +25,12 @@ loaded k =
     sym (ap file_answer (sym k.in-Loaded.is) ∙ k.read_file-r.ensures.0)
 
 pub slice_bounds-table_text-end : goal.slice_bounds-table_text-end
-slice_bounds-table_text-end c =    let a = c.args in
+slice_bounds-table_text-end c = let a = c.args in
     subst (λ t. (found c).tree_length ≤ length t) (sym c.read_file-r.ensures.1)
     (loaded-fits a.file.now a.tree.now a.numbers.now (found c) (loaded c))
 
 pub table_text-requires : goal.table_text-requires
-table_text-requires c =    let a = c.args in
+table_text-requires c = let a = c.args in
     let r = found (goal.at.table_text-requires c).In-Loaded in
     let o = file_outcome a.file.now a.tree.now a.numbers.now in
     let whole : r.tree_length ≡ r.tree_length - 0 = omega arith in (
@@ -59,20 +58,20 @@ whole-text k =
     ∙ loaded-text a.file.now a.tree.now a.numbers.now r (loaded k)
 
 pub refused-requires : goal.refused-requires
-refused-requires c =    omega (
-      arith,
-      c.requires.2,
-    )
+refused-requires c = omega (
+  arith,
+  c.requires.2,
+)
 
 pub returns-in-Loaded : goal.returns-in-Loaded
-returns-in-Loaded c =    let a = c.args in (
-      subst (λ l. Put l 0 a.out.now c.table_text.result c.table_text.new.out) (whole-text (goal.at.returns-in-Loaded c).In-Loaded)
-          c.table_text.ensures.0,
-      c.table_text.ensures.1,
-    )
+returns-in-Loaded c = let a = c.args in (
+  subst (λ l. Put l 0 a.out.now c.table_text.result c.table_text.new.out) (whole-text (goal.at.returns-in-Loaded c).In-Loaded)
+      c.table_text.ensures.0,
+  c.table_text.ensures.1,
+)
 
 pub returns-in-Refused : goal.returns-in-Refused
-returns-in-Refused c =    let a = c.args in
+returns-in-Refused c = let a = c.args in
     let n = c.in-Refused.c in
     let e : (file_outcome a.file.now a.tree.now a.numbers.now).result ≡ refused n =
     sym (ap file_answer (sym c.in-Refused.is) ∙ c.read_file-r.ensures.0) in

@@ -5,7 +5,7 @@ use native.Mathlib.Omega.{arith}
 use Rattle.surface.proofs.TableLaws.{sound, sides}
 use mir.Syntax.{w64}
 use mir.ValLaws.{to_z-of_z}
-use borrow.Author.Rules.{rules, sfits_of}
+use borrow.Author.Rules.{sfits_of}
 use Rattle.surface.specs.Calls.{whole_watts}
 use Rattle.corners.proofs.watts_at.Goals.{Start}
 use Rattle.corners.proofs.watts_at.Goals as goal
@@ -20,7 +20,7 @@ pub overflow_mul-v : goal.overflow_mul-v
 overflow_mul-v c = omega (arith, within c)
 
 pub returns : goal.returns
-returns c =    let n = c.reading_at.result in
+returns c = let n = c.reading_at.result in
     let watts = c.whole_watts.result in
     let same = to_z-of_z w64 watts (sfits_of c.whole_watts.type_inv) in (
       λ t painted accepted.

@@ -3,7 +3,6 @@ use mathlib.Core.Path.{◌≡◌, refl, sym, ap, ◌∙◌}
 use mathlib.Core.List.{[], ◌∷◌}
 use Prim.Native.Nat.{◌≤◌, ◌<◌}
 use native.Mathlib.Omega.{arith}
-use borrow.Author.Rules.{rules}
 use lib.ListN.{length}
 use lib.Seq.{set_split}
 use mir.Syntax.{w64}
@@ -49,7 +48,7 @@ pub places-coarse-requires : goal.places-coarse-requires
 places-coarse-requires c = ((sizes c).0, (sizes c).1, omega arith)
 
 pub spread-requires : goal.spread-requires
-spread-requires c =    let a = c.args in
+spread-requires c = let a = c.args in
     let h : c.places-coarse.result ≤ length a.numbers_out.now =
     omega (arith, (sizes (goal.at.spread-requires c).Else-cause-ne0).2, (starts a.w a.h).4, c.places-coarse.ensures.0) in
     h
@@ -59,7 +58,7 @@ bounds-tree_out-0 c = (sizes (goal.at.bounds-tree_out-0 c).Else-cause-ne0).3
 
 pub returns : goal.returns
 unfolding fresh_outcome
-returns c =    let spread = c.spread in
+returns c = let spread = c.spread in
     let places = c.places-coarse in
     let a = c.args in
     let size = sizes (goal.at.returns c).Else-cause-ne0 in

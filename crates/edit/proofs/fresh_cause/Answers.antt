@@ -2,7 +2,7 @@
 use mathlib.Core.Path.{◌≡◌, sym, ap, ◌∙◌}
 use mathlib.Core.Bool.{not, ◌&&◌}
 use native.Mathlib.Omega.{arith}
-use borrow.Author.Rules.{rules, sfits_of}
+use borrow.Author.Rules.{sfits_of}
 use lib.Dec.{ltb}
 use lib.IntN.{pos, nat_abs}
 use mir.Syntax.{w64}
@@ -40,13 +40,13 @@ pub returns-then-past : goal.returns-then-past
 returns-then-past c = past (good (goal.at.returns-then-past c).Else-not-good_sides) (rw (← (size (goal.at.returns-then-past c).After-past), c.if-past.true))
 
 pub outputs_cause-requires : goal.outputs_cause-requires
-outputs_cause-requires c =    let a = c.args in
+outputs_cause-requires c = let a = c.args in
     let both-good = cause-none 0 (good_side a.w && good_side a.h) (sym (good (goal.at.outputs_cause-requires c).Else-not-good_sides)) in
     let sides = both (good_side a.w) (good_side a.h) both-good in
     ((good-side a.w sides.0).1, (good-side a.h sides.1).1)
 
 pub returns : goal.returns
-returns c =    past (good (goal.at.returns c).Else-not-good_sides)
+returns c = past (good (goal.at.returns c).Else-not-good_sides)
     (past (ap (cause 10) (sym c.if-past.false ∙ size (goal.at.returns c).After-past)) c.outputs_cause.ensures)
 
 pub past-requires : goal.past-requires

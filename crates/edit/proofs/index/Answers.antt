@@ -23,10 +23,10 @@ below : (c : Start) → index c.args.i < functions c.args.n c.args.level
 below c = (index_of c.args.n c.args.level c.args.i c.requires.2).1
 
 pub overflow_cast-result : goal.overflow_cast-result
-overflow_cast-result c =    let few = functions-le c.args.n c.args.level c.requires.0 c.requires.1 in (
-      subst (λ z. T (non_neg z)) (sym (value c)) tt,
-      subst (λ z. Fits w64 (nat_abs z)) (sym (value c)) (record { fits = omega (arith, below c, few) }),
-    )
+overflow_cast-result c = let few = functions-le c.args.n c.args.level c.requires.0 c.requires.1 in (
+  subst (λ z. T (non_neg z)) (sym (value c)) tt,
+  subst (λ z. Fits w64 (nat_abs z)) (sym (value c)) (record { fits = omega (arith, below c, few) }),
+)
 
 pub returns : goal.returns
 returns c = (

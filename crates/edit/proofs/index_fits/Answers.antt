@@ -2,7 +2,6 @@
 use mathlib.Core.Path.{◌≡◌, ap, ◌∙◌}
 use Prim.Native.Nat.{◌-◌}
 use native.Mathlib.Omega.{arith}
-use borrow.Author.Rules.{rules}
 use lib.IntN.{pos}
 use mir.Syntax.{w64}
 use mir.Val.{to_z}
@@ -12,10 +11,10 @@ use Rattle.edit.proofs.SignedLaws.{index-low, index-high}
 use Rattle.edit.proofs.index_fits.Goals as goal
 
 pub returns-then-i-ltminus3 : goal.returns-then-i-ltminus3
-returns-then-i-ltminus3 c =    index-low c.args.n c.args.level c.ranges.i c.if-i-ltminus3.true
+returns-then-i-ltminus3 c = index-low c.args.n c.args.level c.ranges.i c.if-i-ltminus3.true
 
 pub returns : goal.returns
-returns c =    let a = c.args in
+returns c = let a = c.args in
     let f = c.functions-cells.result in
     let k : f - 3 ≡ cells a.n a.level = omega (arith, c.functions-cells.ensures.0) in
     let e : to_z w64 (f - 3) ≡ pos (cells a.n a.level) =

@@ -1,6 +1,5 @@
 -- `is_active` is the test `active` under the levels of the rows.
 use mathlib.Core.Path.{refl, ap, ◌∙◌}
-use borrow.Author.Rules.{rules}
 use Rattle.surface.specs.Sheet.{functions}
 use Rattle.activity.specs.Marks.{marked}
 use Rattle.activity.proofs.ActiveLaws.{index-fits}
@@ -8,7 +7,7 @@ use Rattle.activity.proofs.WindowLaws.{row-size, eighths-le, eighths-some}
 use Rattle.edit.proofs.is_active.Goals as goal
 
 pub is_marked-requires : goal.is_marked-requires
-is_marked-requires c =    let a = c.args in
+is_marked-requires c = let a = c.args in
     let side = c.eighths-e.ensures in
     let n = functions a.w a.level in (
       index-fits n a.a c.eighths-e.result
@@ -18,7 +17,7 @@ is_marked-requires c =    let a = c.args in
     )
 
 pub returns : goal.returns
-returns c =    let row = c.active_row-marks in
+returns c = let row = c.active_row-marks in
     let a = c.args in
     c.is_marked.ensures
     ∙ ap (λ c. marked c row.result a.a) c.eighths-e.ensures

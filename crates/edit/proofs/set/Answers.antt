@@ -2,7 +2,6 @@
 use mathlib.Core.Path.{◌≡◌, refl, sym, ap, ◌∙◌}
 use Prim.Native.Nat.{◌+◌, ◌*◌, ◌≤◌, ◌<◌}
 use native.Mathlib.Omega.{arith}
-use borrow.Author.Rules.{rules}
 use lib.ListN.{length}
 use mir.Syntax.{w64}
 use mir.ValLaws.{to_z-of_z}
@@ -52,25 +51,25 @@ pub functions-n-requires : goal.functions-n-requires
 functions-n-requires c = ((fit c).side-W, (fit c).level)
 
 pub index-a-requires : goal.index-a-requires
-index-a-requires c =    let a = c.args in (
-      (fit (goal.at.index-a-requires c).Else-cause-ne0).side-W,
-      (fit (goal.at.index-a-requires c).Else-cause-ne0).level,
-      ap (index_fits a.w a.level) (to_z-of_z w64 a.i c.ranges.i) ∙ (fit (goal.at.index-a-requires c).Else-cause-ne0).first,
-    )
+index-a-requires c = let a = c.args in (
+  (fit (goal.at.index-a-requires c).Else-cause-ne0).side-W,
+  (fit (goal.at.index-a-requires c).Else-cause-ne0).level,
+  ap (index_fits a.w a.level) (to_z-of_z w64 a.i c.ranges.i) ∙ (fit (goal.at.index-a-requires c).Else-cause-ne0).first,
+)
 
 pub index-b-requires : goal.index-b-requires
-index-b-requires c =    let a = c.args in (
-      (fit (goal.at.index-b-requires c).Else-cause-ne0).side-H,
-      (fit (goal.at.index-b-requires c).Else-cause-ne0).level,
-      ap (index_fits a.h a.level) (to_z-of_z w64 a.j c.ranges.j) ∙ (fit (goal.at.index-b-requires c).Else-cause-ne0).second,
-    )
+index-b-requires c = let a = c.args in (
+  (fit (goal.at.index-b-requires c).Else-cause-ne0).side-H,
+  (fit (goal.at.index-b-requires c).Else-cause-ne0).level,
+  ap (index_fits a.h a.level) (to_z-of_z w64 a.j c.ranges.j) ∙ (fit (goal.at.index-b-requires c).Else-cause-ne0).second,
+)
 
 pub start-first-requires : goal.start-first-requires
-start-first-requires c =    let l = (fit (goal.at.start-first-requires c).Else-cause-ne0).level in
+start-first-requires c = let l = (fit (goal.at.start-first-requires c).Else-cause-ne0).level in
     ((fit (goal.at.start-first-requires c).Else-cause-ne0).side-W, (fit (goal.at.start-first-requires c).Else-cause-ne0).side-H, omega arith)
 
 pub places-requires : goal.places-requires
-places-requires c =    ((fit (goal.at.places-requires c).Else-cause-ne0).side-W, (fit (goal.at.places-requires c).Else-cause-ne0).side-H, (fit (goal.at.places-requires c).Else-cause-ne0).level)
+places-requires c = ((fit (goal.at.places-requires c).Else-cause-ne0).side-W, (fit (goal.at.places-requires c).Else-cause-ne0).side-H, (fit (goal.at.places-requires c).Else-cause-ne0).level)
 
 -- the level's part is inside the slice
 inside : (c : After-places)
@@ -115,7 +114,7 @@ at_place c =
     second.ensures.1 (inside c)
 
 pub set_in_part-requires : goal.set_in_part-requires
-set_in_part-requires c =    let a = c.args in
+set_in_part-requires c = let a = c.args in
     let f = functions-le a.w a.level (fit (goal.at.set_in_part-requires c).Else-cause-ne0).side-W (fit (goal.at.set_in_part-requires c).Else-cause-ne0).level in
     let g = functions-le a.h a.level (fit (goal.at.set_in_part-requires c).Else-cause-ne0).side-H (fit (goal.at.set_in_part-requires c).Else-cause-ne0).level in (
       c.functions-n.ensures.1,
@@ -126,7 +125,7 @@ set_in_part-requires c =    let a = c.args in
 
 pub returns : goal.returns
 unfolding set_outcome
-returns c =    let a = c.args in
+returns c = let a = c.args in
     let row = c.functions-n in
     let first = c.index-a in
     let second = c.index-b in

@@ -2,7 +2,7 @@
 use mathlib.Core.Path.{◌≡◌, sym, ap, ap₂, ◌∙◌}
 use mathlib.Core.Bool.{Bool, not, ◌&&◌}
 use Prim.Native.Nat.{ℕ}
-use borrow.Author.Rules.{rules, sfits_of}
+use borrow.Author.Rules.{sfits_of}
 use borrow.Author.Tests.{lt-ltb, le-ltb}
 use lib.Dec.{ltb, eqb}
 use lib.IntN.{ℤ, pos, nat_abs}
@@ -39,7 +39,7 @@ unfolding set_cause
 returns-then-level-gt3 c = past (none (goal.at.returns-then-level-gt3 c).Else-cause-ne0) (rw (lt-ltb 3 _ c.if-level-gt3.true))
 
 pub settable-requires : goal.settable-requires
-settable-requires c =    let a = c.args in
+settable-requires c = let a = c.args in
     let f = table_none a.w a.h a.t.now a.numbers.now (none (goal.at.settable-requires c).Else-cause-ne0) in
     (f.1, f.3, c.if-level-gt3.false, rw (painted (goal.at.settable-requires c).Else-cause-ne0) (rows-nested (levels a.t.now)))
 
@@ -81,7 +81,7 @@ bound : (c : After-limit)
 bound c = to_z-of_z w64 c.limit.result (sfits_of c.limit.type_inv) ∙ c.limit.ensures
 
 pub past-requires : goal.past-requires
-past-requires c =    let a = c.args in
+past-requires c = let a = c.args in
     (limit a.level, bound c, limit-below a.level c.if-level-gt3.false)
 
 -- the number's test
@@ -94,10 +94,10 @@ size c =
     ∙ ap (λ z. ltb (limit c.args.level) (nat_abs z)) (to_z-of_z w64 c.args.number c.ranges.number)
 
 pub returns-then-past : goal.returns-then-past
-returns-then-past c =    by (goal.at.returns-then-past c).After-settable (rw (c.if-settable.true, ← (size (goal.at.returns-then-past c).After-past), c.if-past.true))
+returns-then-past c = by (goal.at.returns-then-past c).After-settable (rw (c.if-settable.true, ← (size (goal.at.returns-then-past c).After-past), c.if-past.true))
 
 pub returns-then-settable : goal.returns-then-settable
-returns-then-settable c =    by (goal.at.returns-then-settable c).After-settable (rw (c.if-settable.true, ← (size (goal.at.returns-then-settable c).After-past), c.if-past.false))
+returns-then-settable c = by (goal.at.returns-then-settable c).After-settable (rw (c.if-settable.true, ← (size (goal.at.returns-then-settable c).After-past), c.if-past.false))
 
 pub returns : goal.returns
 returns c = by (goal.at.returns c).After-settable (rw c.if-settable.false)

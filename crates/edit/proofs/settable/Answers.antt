@@ -2,7 +2,6 @@
 use mathlib.Core.Path.{◌≡◌, sym, ap, ap₂, ◌∙◌}
 use mathlib.Core.Bool.{Bool}
 use Prim.Native.Nat.{ℕ}
-use borrow.Author.Rules.{rules}
 use mir.Syntax.{w64}
 use mir.ValLaws.{to_z-of_z}
 use Rattle.surface.specs.Support.{active}
@@ -25,13 +24,13 @@ second_fits c =
     c.index_fits-then-index_fits.ensures ∙ ap (index_fits c.args.h c.args.level) (to_z-of_z w64 c.args.j c.ranges.j)
 
 pub index-a-requires : goal.index-a-requires
-index-a-requires c =    (c.requires.0, c.requires.2, sym c.index_fits.ensures ∙ c.if-index_fits.true)
+index-a-requires c = (c.requires.0, c.requires.2, sym c.index_fits.ensures ∙ c.if-index_fits.true)
 
 pub index-b-requires : goal.index-b-requires
-index-b-requires c =    (c.requires.1, c.requires.2, sym c.index_fits-then-index_fits.ensures ∙ c.if-index_fits-2.true)
+index-b-requires c = (c.requires.1, c.requires.2, sym c.index_fits-then-index_fits.ensures ∙ c.if-index_fits-2.true)
 
 pub returns-then-index_fits-2 : goal.returns-then-index_fits-2
-returns-then-index_fits-2 c =    let a = c.args in
+returns-then-index_fits-2 c = let a = c.args in
     let act : ℕ → ℕ → Bool = λ x y. active a.w a.h (levels_of a.rows.now) a.level x y in
     both-fit a.w a.h a.level a.i a.j (act (index a.i) (index a.j))
     (sym (first_fits (goal.at.returns-then-index_fits-2 c).After-index_fits) ∙ c.if-index_fits.true) (sym (second_fits (goal.at.returns-then-index_fits-2 c).After-index_fits-then-index_fits) ∙ c.if-index_fits-2.true)
@@ -41,9 +40,9 @@ returns-then-index_fits-2 c =    let a = c.args in
     (c.index-b.ensures.0 ∙ ap index (to_z-of_z w64 a.j c.ranges.j)))
 
 pub returns-else-index_fits-2 : goal.returns-else-index_fits-2
-returns-else-index_fits-2 c =    let a = c.args in
+returns-else-index_fits-2 c = let a = c.args in
     second-off a.w a.h a.level a.i a.j _ (sym (second_fits (goal.at.returns-else-index_fits-2 c).After-index_fits-then-index_fits) ∙ c.if-index_fits-2.false)
 
 pub returns-else-index_fits : goal.returns-else-index_fits
-returns-else-index_fits c =    let a = c.args in
+returns-else-index_fits c = let a = c.args in
     first_off a.w a.h a.level a.i a.j _ (sym (first_fits (goal.at.returns-else-index_fits c).After-index_fits) ∙ c.if-index_fits.false)

@@ -3,7 +3,6 @@ use mathlib.Core.Path.{◌≡◌, ap, ◌∙◌}
 use mathlib.Core.List.{List, ◌++◌}
 use Prim.Native.Nat.{◌-◌}
 use native.Mathlib.Omega.{arith}
-use borrow.Author.Rules.{rules}
 use lib.IntN.{ℤ, pos}
 use lib.ListN.{length, take, drop, replicate, length-append, length-drop, length-replicate}
 use mir.Syntax.{w64}
@@ -12,7 +11,7 @@ use Rattle.edit.proofs.FreshLaws.{spread-first, spread-rest}
 use Rattle.edit.proofs.spread.Goals as goal
 
 pub returns : goal.returns
-returns c =    let k = c.args.coarse in
+returns c = let k = c.args.coarse in
     let xs = c.args.numbers.now in
     let z = c.args.number in
     let first-fill = c.fill in

@@ -18,7 +18,7 @@ pub splines_at-v-requires : goal.splines_at-v-requires
 splines_at-v-requires c = search (rules, (bounds (goal.at.splines_at-v-requires c).Start).side)
 
 pub weigh_rows-requires : goal.weigh_rows-requires
-weigh_rows-requires c =    let a = c.args in
+weigh_rows-requires c = let a = c.args in
     let (L, hL, at, b) = c.requires.2 in
     let z = bounds (goal.at.weigh_rows-requires c).Start in
     rows_fit (whole a.n) (limit L) (splines_of a.n a.s) a.p c.splines_at-v.ensures
@@ -31,7 +31,7 @@ rows c =
     c.weigh_rows.ensures ∙ ap (λ w. weighed_rows w c.args.p) c.splines_at-v.ensures
 
 pub weigh-requires : goal.weigh-requires
-weigh-requires c =    let a = c.args in
+weigh-requires c = let a = c.args in
     let (L, hL, at, b) = c.requires.2 in
     let z = bounds (goal.at.weigh-requires c).Start in
     sum_fits (whole a.n) (whole a.n) (limit L) (splines_of a.n a.r) (splines_of a.n a.s) a.p
@@ -39,7 +39,7 @@ weigh-requires c =    let a = c.args in
     z.whole-fits z.row_fits z.value-fits
 
 pub returns : goal.returns
-returns c =    let a = c.args in
+returns c = let a = c.args in
     sum-read (splines_of a.n a.r) (splines_of a.n a.s) a.p c.splines_at-u.ensures (rows (goal.at.returns c).After-weigh_rows)
     (sfits_of c.weigh.type_inv) c.weigh.ensures
     ∙ value a.n a.p a.r a.s

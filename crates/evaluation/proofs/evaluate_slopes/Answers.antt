@@ -25,14 +25,14 @@ pub derivatives_at-slopes_v-requires : goal.derivatives_at-slopes_v-requires
 derivatives_at-slopes_v-requires c = search (rules, (bounds (goal.at.derivatives_at-slopes_v-requires c).Start).side)
 
 pub weigh_rows-rows-requires : goal.weigh_rows-rows-requires
-weigh_rows-rows-requires c =    let a = c.args in
+weigh_rows-rows-requires c = let a = c.args in
     let (L, hL, at, b) = c.requires.2 in
     let z = bounds (goal.at.weigh_rows-rows-requires c).Start in
     rows_fit (whole a.n) (limit L) (splines_of a.n a.s) a.p c.splines_at-splines_v.ensures
     (weights a.n a.s c.requires.1) b z.whole-fits z.entry-fits z.row_fits
 
 pub weigh_rows-sloping_rows-requires : goal.weigh_rows-sloping_rows-requires
-weigh_rows-sloping_rows-requires c =    let a = c.args in
+weigh_rows-sloping_rows-requires c = let a = c.args in
     let (L, hL, at, b) = c.requires.2 in
     let z = bounds (goal.at.weigh_rows-sloping_rows-requires c).Start in
     rows_fit (steepest a.n) (limit L) (derivatives_of a.n a.s) a.p c.derivatives_at-slopes_v.ensures
@@ -42,30 +42,30 @@ weigh_rows-sloping_rows-requires c =    let a = c.args in
 module _ (c : After-weigh_rows-sloping_rows) where
   abbrev one : After-weigh_rows-rows
   one = c.before
+
   abbrev along-v : After-derivatives_at-slopes_v
-
   along-v = one.before
+
   abbrev along-u : After-derivatives_at-slopes_u
-
   along-u = along-v.before
+
   abbrev v : After-splines_at-splines_v
-
   v = along-u.before
+
   abbrev u : After-splines_at-splines_u
-
   u = v.before
+
   abbrev start : Start
-
   start = u.before
+
   rows : let a = start.args in one.weigh_rows-rows.result ≡ weighed_rows (splines_of a.n a.s) a.p
-
   rows = one.weigh_rows-rows.ensures ∙ ap (λ w. weighed_rows w start.args.p) v.splines_at-splines_v.ensures
-  slopes : let a = start.args in c.weigh_rows-sloping_rows.result ≡ weighed_rows (derivatives_of a.n a.s) a.p
 
+  slopes : let a = start.args in c.weigh_rows-sloping_rows.result ≡ weighed_rows (derivatives_of a.n a.s) a.p
   slopes = c.weigh_rows-sloping_rows.ensures ∙ ap (λ w. weighed_rows w start.args.p) along-v.derivatives_at-slopes_v.ensures
 
 pub weigh-requires : goal.weigh-requires
-weigh-requires c =    let s = start c in
+weigh-requires c = let s = start c in
     let a = s.args in
     let (L, hL, at, b) = s.requires.2 in
     let z = bounds s in
@@ -74,7 +74,7 @@ weigh-requires c =    let s = start c in
     z.whole-fits z.row_fits z.value-fits
 
 pub weigh-requires-2 : goal.weigh-requires-2
-weigh-requires-2 c =    let s = start (goal.at.weigh-requires-2 c).After-weigh_rows-sloping_rows in
+weigh-requires-2 c = let s = start (goal.at.weigh-requires-2 c).After-weigh_rows-sloping_rows in
     let a = s.args in
     let (L, hL, at, b) = s.requires.2 in
     let z = bounds s in
@@ -83,7 +83,7 @@ weigh-requires-2 c =    let s = start (goal.at.weigh-requires-2 c).After-weigh_r
     (weights a.n a.s s.requires.1) b z.steepest-fits z.row_fits z.slope-u-fits
 
 pub weigh-requires-3 : goal.weigh-requires-3
-weigh-requires-3 c =    let s = start (goal.at.weigh-requires-3 c).After-weigh_rows-sloping_rows in
+weigh-requires-3 c = let s = start (goal.at.weigh-requires-3 c).After-weigh_rows-sloping_rows in
     let a = s.args in
     let (L, hL, at, b) = s.requires.2 in
     let z = bounds s in
@@ -92,7 +92,7 @@ weigh-requires-3 c =    let s = start (goal.at.weigh-requires-3 c).After-weigh_r
     b z.whole-fits z.slope-row-fits z.slope-v-fits
 
 pub returns : goal.returns
-returns c =    let a = (start (goal.at.returns c).After-weigh_rows-sloping_rows).args in
+returns c = let a = (start (goal.at.returns c).After-weigh_rows-sloping_rows).args in
     record {
       watts =
           sum-read (splines_of a.n a.r) (splines_of a.n a.s) a.p (u (goal.at.returns c).After-weigh_rows-sloping_rows).splines_at-splines_u.ensures (rows (goal.at.returns c).After-weigh_rows-sloping_rows)

@@ -8,7 +8,7 @@ use lib.ListN.{get_or}
 use mir.Syntax.{w64}
 use mir.Val.{SFits, to_z, of_z}
 use mir.ValLaws.{to_z-of_z}
-use borrow.Author.Rules.{rules, sfits_of}
+use borrow.Author.Rules.{sfits_of}
 use Rattle.evaluation.specs.Weights.{weighed, Fit}
 use Rattle.patch.proofs.Four.{four}
 use Rattle.evaluation.proofs.weigh_rows.Goals.{Start}
@@ -38,7 +38,7 @@ pub weigh-requires-4 : goal.weigh-requires-4
 weigh-requires-4 c = row-weighs (goal.at.weigh-requires-4 c).Start 3 (lit< tt)
 
 pub returns : goal.returns
-returns c =    four
+returns c = four
     (row-value (goal.at.returns c).Start 0 (sfits_of c.weigh.type_inv) c.weigh.ensures)
     (row-value (goal.at.returns c).Start 1 (sfits_of c.weigh-2.type_inv) c.weigh-2.ensures)
     (row-value (goal.at.returns c).Start 2 (sfits_of c.weigh-3.type_inv) c.weigh-3.ensures)

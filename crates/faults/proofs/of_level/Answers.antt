@@ -1,10 +1,10 @@
 -- Before each turn the flags say the faults of the rows below b.
 use mathlib.Core.Path.{◌≡◌, ap, ◌∙◌, subst}
 use mathlib.Core.Bool.{not}
-use Prim.Native.Nat.{◌+◌, ◌-◌, ◌*◌, ◌≤◌, ◌<◌}
+use Prim.Native.Nat.{◌+◌, ◌≤◌, ◌<◌}
 use native.Mathlib.Nat.{le-add_right}
 use native.Mathlib.Omega.{arith}
-use borrow.Author.Rules.{rules, sfits_of}
+use borrow.Author.Rules.{sfits_of}
 use lib.IntN.{pos}
 use lib.ListN.{length}
 use mir.Syntax.{w64}
@@ -16,12 +16,12 @@ use Rattle.surface.specs.Table.{start, limit}
 use Rattle.coefficients.proofs.Parts.{row-end, rows_none, row_next, part_length}
 use Rattle.coefficients.proofs.Sizes.{limit-below}
 use Rattle.faults.specs.Faults.{limits, zeros}
-use Rattle.faults.proofs.FaultLaws.{none-lost, lost-more, holds_below, rows-done, row-holds}
+use Rattle.faults.proofs.FaultLaws.{none-lost, lost-more, rows-done, row-holds}
 use Rattle.faults.proofs.of_level.Goals.{After-limit-bound, In-loop-b}
 use Rattle.faults.proofs.of_level.Goals as goal
 
 pub loop-b-init : goal.loop-b-init
-loop-b-init c =    let first = c.start-from.ensures.0 in
+loop-b-init c = let first = c.start-from.ensures.0 in
     (omega arith, first ∙ rows_none _ c.functions-n.result, none-lost _, none-lost _)
 
 -- a turn's row is one of the level's, and inside the slice
@@ -44,18 +44,18 @@ bound : (c : After-limit-bound)
 bound c = to_z-of_z w64 c.limit-bound.result (sfits_of c.limit-bound.type_inv) ∙ c.limit-bound.ensures
 
 pub of_row-f-requires : goal.of_row-f-requires
-of_row-f-requires c =    let n = c.functions-n.result in (
-      c.requires.0,
-      c.requires.1,
-      c.requires.2,
-      row (goal.at.of_row-f-requires c).In-loop-b,
-      c.requires.4,
-      part_length c.loop-b.from n c.args.numbers.now (inside (goal.at.of_row-f-requires c).In-loop-b) ∙ c.functions-n.ensures.0,
-      (limit c.args.level, bound (goal.at.of_row-f-requires c).After-limit-bound, limit-below c.args.level c.requires.2),
-    )
+of_row-f-requires c = let n = c.functions-n.result in (
+  c.requires.0,
+  c.requires.1,
+  c.requires.2,
+  row (goal.at.of_row-f-requires c).In-loop-b,
+  c.requires.4,
+  part_length c.loop-b.from n c.args.numbers.now (inside (goal.at.of_row-f-requires c).In-loop-b) ∙ c.functions-n.ensures.0,
+  (limit c.args.level, bound (goal.at.of_row-f-requires c).After-limit-bound, limit-below c.args.level c.requires.2),
+)
 
 pub loop-b-preserved : goal.loop-b-preserved
-loop-b-preserved c =    let loop = c.loop-b in
+loop-b-preserved c = let loop = c.loop-b in
     let a = c.args in
     let n = c.functions-n.result in
     let faults = c.of_row-f.ensures (limit a.level) (bound (goal.at.loop-b-preserved c).After-limit-bound) in
@@ -68,7 +68,7 @@ loop-b-preserved c =    let loop = c.loop-b in
     )
 
 pub returns : goal.returns
-returns c =    let loop = c.loop-b in
+returns c = let loop = c.loop-b in
     let a = c.args in
     let last : loop.b ≡ c.functions-m.result = omega (arith, c.loop-b-test.false, loop.invariant.0) in
     let whole = rows-done a.w a.h (levels_of a.rows.now) a.numbers.now a.level loop.b

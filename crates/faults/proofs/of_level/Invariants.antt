@@ -1,21 +1,10 @@
-use mathlib.Core.Path.{◌≡◌, ap, ◌∙◌, subst}
+use mathlib.Core.Path.{◌≡◌}
 use mathlib.Core.Bool.{not}
-use Prim.Native.Nat.{◌+◌, ◌-◌, ◌*◌, ◌≤◌, ◌<◌}
-use native.Mathlib.Nat.{le-add_right}
-use native.Mathlib.Omega.{arith}
-use borrow.Author.Rules.{rules, sfits_of}
-use lib.IntN.{pos}
-use lib.ListN.{length}
-use mir.Syntax.{w64}
-use mir.Val.{to_z, of_z}
-use mir.ValLaws.{to_z-of_z}
+use Prim.Native.Nat.{◌+◌, ◌-◌, ◌*◌, ◌≤◌}
 use Rattle.rows.specs.Rows.{levels_of}
-use Rattle.surface.specs.Sheet.{functions}
-use Rattle.surface.specs.Table.{start, limit}
-use Rattle.coefficients.proofs.Parts.{row-end, rows_none, row_next, part_length}
-use Rattle.coefficients.proofs.Sizes.{limit-below}
+use Rattle.surface.specs.Table.{start}
 use Rattle.faults.specs.Faults.{limits, zeros}
-use Rattle.faults.proofs.FaultLaws.{none-lost, lost-more, holds_below, rows-done, row-holds}
+use Rattle.faults.proofs.FaultLaws.{holds_below}
 use Rattle.faults.proofs.of_level.Given as goal
 
 abbrev pub invariant-loop-b : goal.invariant-loop-b

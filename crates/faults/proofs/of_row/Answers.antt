@@ -1,7 +1,6 @@
 -- `of_row` meets its contract: a row of zeros has no fault, and any other's are found by its active functions.
 use mathlib.Core.Path.{ap, ◌∙◌}
 use native.Mathlib.Omega.{arith}
-use borrow.Author.Rules.{rules}
 use mir.Syntax.{w64}
 use mir.ValLaws.{to_z-of_z}
 use Rattle.surface.specs.Support.{active}
@@ -15,7 +14,7 @@ pub returns-then-only_zeros : goal.returns-then-only_zeros
 returns-then-only_zeros c m e = zero_row m _ c.args.row.now (c.only_zeros.ensures c.if-only_zeros.true)
 
 pub of_marked-requires : goal.of_marked-requires
-of_marked-requires c =    let a = c.args in
+of_marked-requires c = let a = c.args in
     let p = c.requires in (
       row-size a.w a.level _ c.eighths.result p.0 p.2 p.5 c.eighths.ensures,
       omega (arith, c.eighths.ensures, eighths-some a.level),
@@ -24,7 +23,7 @@ of_marked-requires c =    let a = c.args in
     )
 
 pub returns : goal.returns
-returns c m e =    let side = c.eighths in
+returns c m e = let side = c.eighths in
     let marks = c.active_row-marks in
     let a = c.args in
     same-marks m (marked side.result marks.result)

@@ -1,24 +1,18 @@
 -- Before each turn the flags say the faults of the levels below.
 use mathlib.Core.Path.{◌≡◌}
-use mathlib.Core.Bool.{not}
-use Prim.Native.Nat.{◌-◌, ◌≤◌}
 use native.Mathlib.Omega.{arith}
-use borrow.Author.Rules.{rules}
-use Rattle.finite.specs.Range.{every}
-use Rattle.rows.specs.Rows.{levels_of}
-use Rattle.faults.specs.Faults.{limits, zeros, holds_on}
 use Rattle.faults.proofs.FaultLaws.{none-lost, lost-more}
 use Rattle.faults.proofs.of_table.Goals as goal
 
 pub loop-level-preserved : goal.loop-level-preserved
-loop-level-preserved c =    let loop = c.loop-level in (
-      omega (arith, c.loop-level-test.true),
-      lost-more loop.level _ loop.invariant.1 c.of_level-f.ensures.limited c.either-over.ensures,
-      lost-more loop.level _ loop.invariant.2 c.of_level-f.ensures.zeroed c.either-stray.ensures,
-    )
+loop-level-preserved c = let loop = c.loop-level in (
+  omega (arith, c.loop-level-test.true),
+  lost-more loop.level _ loop.invariant.1 c.of_level-f.ensures.limited c.either-over.ensures,
+  lost-more loop.level _ loop.invariant.2 c.of_level-f.ensures.zeroed c.either-stray.ensures,
+)
 
 pub returns : goal.returns
-returns c =    let inv = c.loop-level.invariant in
+returns c = let inv = c.loop-level.invariant in
     let all : c.loop-level.level ≡ 4 = omega arith in
     record { limited = rw all at inv.1; zeroed = rw all at inv.2 }
 

@@ -1,12 +1,9 @@
 use mathlib.Core.Path.{◌≡◌}
 use mathlib.Core.Bool.{not}
 use Prim.Native.Nat.{◌-◌, ◌≤◌}
-use native.Mathlib.Omega.{arith}
-use borrow.Author.Rules.{rules}
 use Rattle.finite.specs.Range.{every}
 use Rattle.rows.specs.Rows.{levels_of}
 use Rattle.faults.specs.Faults.{limits, zeros, holds_on}
-use Rattle.faults.proofs.FaultLaws.{none-lost, lost-more}
 use Rattle.faults.proofs.of_table.Given as goal
 
 abbrev pub invariant-loop-level : goal.invariant-loop-level

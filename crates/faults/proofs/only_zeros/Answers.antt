@@ -1,7 +1,6 @@
 -- `only_zeros` meets its contract: before each turn the numbers below a are 0.
 use mathlib.Core.Path.{◌≡◌, sym}
 use mathlib.Core.Bool.{true≢false}
-use Prim.Native.Nat.{ℕ, ◌≤◌, ◌<◌, ◌-◌}
 use native.Mathlib.Omega.{arith}
 use borrow.Author.Count.{below_more}
 use borrow.Author.Rules.{sfits_of}
@@ -17,11 +16,11 @@ pub returns-then-row-a-ne0 : goal.returns-then-row-a-ne0
 returns-then-row-a-ne0 c e = absurd (true≢false (sym e))
 
 pub loop-a-preserved : goal.loop-a-preserved
-loop-a-preserved c =    let row = c.args.row.now in (
-      omega arith,
-      below_more (λ k. nat_abs (get_or row k (pos 0)) ≡ 0) c.loop-a.a c.loop-a.invariant.1
-          (zero_of (get_or row c.loop-a.a (pos 0)) (sfits_of c.t7-1.given) c.if-row-a-ne0.false),
-    )
+loop-a-preserved c = let row = c.args.row.now in (
+  omega arith,
+  below_more (λ k. nat_abs (get_or row k (pos 0)) ≡ 0) c.loop-a.a c.loop-a.invariant.1
+      (zero_of (get_or row c.loop-a.a (pos 0)) (sfits_of c.t7-1.given) c.if-row-a-ne0.false),
+)
 
 pub returns : goal.returns
 returns c _ k l = c.loop-a.invariant.1 k (omega arith)

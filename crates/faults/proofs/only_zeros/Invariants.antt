@@ -1,12 +1,7 @@
-use mathlib.Core.Path.{◌≡◌, sym}
-use mathlib.Core.Bool.{true≢false}
+use mathlib.Core.Path.{◌≡◌}
 use Prim.Native.Nat.{ℕ, ◌≤◌, ◌<◌, ◌-◌}
-use native.Mathlib.Omega.{arith}
-use borrow.Author.Count.{below_more}
-use borrow.Author.Rules.{sfits_of}
 use lib.IntN.{pos, nat_abs}
 use lib.ListN.{get_or}
-use Rattle.coefficients.proofs.FaultLaws.{zero_of}
 use Rattle.faults.proofs.only_zeros.Given as goal
 
 abbrev pub invariant-loop-a : goal.invariant-loop-a

@@ -1,5 +1,4 @@
 -- `put_byte` meets its contract.
-use borrow.Author.Rules.{rules}
 use native.Mathlib.Omega.{arith}
 use Rattle.fields.proofs.PutLaws.{put_byte}
 use Rattle.fields.proofs.put_byte.Goals as goal

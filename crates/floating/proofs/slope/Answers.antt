@@ -1,5 +1,5 @@
 -- `floating::slope` meets its contract: n is below 2^64 and n/(D/16) below 2^22, so two roundings stay within 2^-20.
-use Rattle.std.proofs.Common.{◌^◌, sym, ap, ◌∙◌, subst, arith, lit≤, w64, rules}
+use Rattle.std.proofs.Common.{◌^◌, sym, ap, ◌∙◌, subst, arith, lit≤, w64}
 use lib.Ieee.{Float, binary64, div, of_int, of_bits}
 use mir.ValLaws.{to_z-of_z}
 use Rattle.surface.specs.Slopes.{slope_d}
@@ -13,7 +13,7 @@ room = record { first = lit≤ tt; second = lit≤ tt; quotient = lit≤ tt; err
 -- the literal is 9 × 2^40
 pub returns : goal.returns
 unfolding of_bits
-returns c =    let n = c.args.n in
+returns c = let n = c.args.n in
     let f = c.ranges.n in
     subst (λ (x : Float). Near (2 ^ 20) slope_d n (div binary64 x (of_bits binary64 4801400152730370048)))
     (sym (c.nearest_i64_to_f64.ensures ∙ ap (of_int binary64) (to_z-of_z w64 n f)))

@@ -1,39 +1,32 @@
 -- Before each turn the rows below b agree.
 use mathlib.Core.Path.{sym}
 use mathlib.Core.Bool.{true≢false}
-use Prim.Native.Nat.{ℕ, ◌+◌, ◌-◌, ◌≤◌, ◌<◌}
 use native.Mathlib.Omega.{arith}
-use borrow.Author.Rules.{rules}
-use borrow.Author.Tests.{not-true, not-false}
 use Rattle.finite.proofs.Tests.{below_more}
-use Rattle.surface.specs.Sheet.{functions}
-use Rattle.rows.specs.Rows.{levels_of}
-use Rattle.coarsening.specs.Coarser.{finer}
-use Rattle.fromgrid.specs.Converts.{in_rows, AgreesAt}
 use Rattle.fromgrid.proofs.agrees.Goals as goal
 
 pub row_agrees-requires : goal.row_agrees-requires
-row_agrees-requires c =    let p = c.requires in
+row_agrees-requires c = let p = c.requires in
     (p.0, p.1, p.2, p.3, p.4, p.5, p.6, omega (arith, c.functions-m.ensures.0, c.loop-b-test.true))
 
 pub returns-then-not-row_agrees : goal.returns-then-not-row_agrees
-returns-then-not-row_agrees c =    (
-      λ t. absurd (true≢false (sym t)),
-      λ _ all. c.row_agrees.ensures.1 c.if-not-row_agrees.true
-          (λ a ha. all a c.loop-b.b ha (omega (arith, c.functions-m.ensures.0, c.loop-b-test.true))),
-    )
+returns-then-not-row_agrees c = (
+  λ t. absurd (true≢false (sym t)),
+  λ _ all. c.row_agrees.ensures.1 c.if-not-row_agrees.true
+      (λ a ha. all a c.loop-b.b ha (omega (arith, c.functions-m.ensures.0, c.loop-b-test.true))),
+)
 
 pub loop-b-preserved : goal.loop-b-preserved
-loop-b-preserved c =    (
-      omega (arith, c.loop-b-test.true),
-      below_more _ c.loop-b.b c.loop-b.invariant.1 (c.row_agrees.ensures.0 c.if-not-row_agrees.false),
-    )
+loop-b-preserved c = (
+  omega (arith, c.loop-b-test.true),
+  below_more _ c.loop-b.b c.loop-b.invariant.1 (c.row_agrees.ensures.0 c.if-not-row_agrees.false),
+)
 
 pub returns : goal.returns
-returns c =    (
-      λ _ a b ha hb. c.loop-b.invariant.1 b (omega (arith, c.functions-m.ensures.0, c.loop-b-test.false)) a ha,
-      λ t. absurd (true≢false t),
-    )
+returns c = (
+  λ _ a b ha hb. c.loop-b.invariant.1 b (omega (arith, c.functions-m.ensures.0, c.loop-b-test.false)) a ha,
+  λ t. absurd (true≢false t),
+)
 
 pub loop-b-init : goal.loop-b-init
 loop-b-init c =

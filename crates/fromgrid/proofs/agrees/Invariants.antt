@@ -1,10 +1,4 @@
-use mathlib.Core.Path.{sym}
-use mathlib.Core.Bool.{true≢false}
 use Prim.Native.Nat.{ℕ, ◌+◌, ◌-◌, ◌≤◌, ◌<◌}
-use native.Mathlib.Omega.{arith}
-use borrow.Author.Rules.{rules}
-use borrow.Author.Tests.{not-true, not-false}
-use Rattle.finite.proofs.Tests.{below_more}
 use Rattle.surface.specs.Sheet.{functions}
 use Rattle.rows.specs.Rows.{levels_of}
 use Rattle.coarsening.specs.Coarser.{finer}

@@ -1,11 +1,8 @@
 -- `find_levels`: level after level from the finer one.
 use mathlib.Core.Path.{refl, sym}
 use mathlib.Core.Bool.{true≢false}
-use Prim.Native.Nat.{◌≤◌}
 use native.Mathlib.Nat.{le_of_eq, le_trans}
 use native.Mathlib.Omega.{arith}
-use borrow.Author.Rules.{rules}
-use borrow.Author.Tests.{not-true, not-false}
 use lib.Dec.{lit≤}
 use Rattle.surface.specs.Sheet.{functions}
 use Rattle.rows.specs.Rows.{levels_of}
@@ -29,7 +26,7 @@ one : (c : Else-not-back_level-2)
 one c = c.back_level-2.ensures.0 c.if-not-back_level-2.false
 
 pub back_level-requires : goal.back_level-requires
-back_level-requires c =    let a = c.args in
+back_level-requires c = let a = c.args in
     let o = c.requires.0 in (
       o.side-W.0,
       o.side-W.1,
@@ -42,7 +39,7 @@ back_level-requires c =    let a = c.args in
     )
 
 pub returns-then-not-back_level : goal.returns-then-not-back_level
-returns-then-not-back_level c =    let a = c.args in
+returns-then-not-back_level c = let a = c.args in
     let o = c.requires.0 in (
       λ t. absurd (true≢false (sym t)),
       λ _. passed-two a.w a.h o.side-W.0 o.side-H.0 (levels_of a.rows.now) a.body.now
@@ -50,19 +47,19 @@ returns-then-not-back_level c =    let a = c.args in
     )
 
 pub back_level-requires-2 : goal.back_level-requires-2
-back_level-requires-2 c =    let o = c.requires.0 in (
-      o.side-W.0,
-      o.side-W.1,
-      o.side-H.0,
-      o.side-H.1,
-      lit≤ tt,
-      c.requires.2,
-      (λ h. absurd (omega (arith, h)), λ _. le_of_eq (sym (two (goal.at.back_level-requires-2 c).Else-not-back_level).size)),
-      λ x y hx hy. le_trans ((two (goal.at.back_level-requires-2 c).Else-not-back_level).small x y hx hy) (lit≤ tt),
-    )
+back_level-requires-2 c = let o = c.requires.0 in (
+  o.side-W.0,
+  o.side-W.1,
+  o.side-H.0,
+  o.side-H.1,
+  lit≤ tt,
+  c.requires.2,
+  (λ h. absurd (omega (arith, h)), λ _. le_of_eq (sym (two (goal.at.back_level-requires-2 c).Else-not-back_level).size)),
+  λ x y hx hy. le_trans ((two (goal.at.back_level-requires-2 c).Else-not-back_level).small x y hx hy) (lit≤ tt),
+)
 
 pub returns-then-not-back_level-2 : goal.returns-then-not-back_level-2
-returns-then-not-back_level-2 c =    let a = c.args in
+returns-then-not-back_level-2 c = let a = c.args in
     let o = c.requires.0 in (
       λ t. absurd (true≢false (sym t)),
       λ _. passed-one a.w a.h o.side-W.0 o.side-H.0 (levels_of a.rows.now) a.body.now
@@ -70,19 +67,19 @@ returns-then-not-back_level-2 c =    let a = c.args in
     )
 
 pub back_level-requires-3 : goal.back_level-requires-3
-back_level-requires-3 c =    let o = c.requires.0 in (
-      o.side-W.0,
-      o.side-W.1,
-      o.side-H.0,
-      o.side-H.1,
-      lit≤ tt,
-      c.requires.1,
-      (λ h. absurd (omega (arith, h)), λ _. le_of_eq (sym (one (goal.at.back_level-requires-3 c).Else-not-back_level-2).size)),
-      λ x y hx hy. le_trans ((one (goal.at.back_level-requires-3 c).Else-not-back_level-2).small x y hx hy) (lit≤ tt),
-    )
+back_level-requires-3 c = let o = c.requires.0 in (
+  o.side-W.0,
+  o.side-W.1,
+  o.side-H.0,
+  o.side-H.1,
+  lit≤ tt,
+  c.requires.1,
+  (λ h. absurd (omega (arith, h)), λ _. le_of_eq (sym (one (goal.at.back_level-requires-3 c).Else-not-back_level-2).size)),
+  λ x y hx hy. le_trans ((one (goal.at.back_level-requires-3 c).Else-not-back_level-2).small x y hx hy) (lit≤ tt),
+)
 
 pub returns : goal.returns
-returns c =    let a = c.args in
+returns c = let a = c.args in
     let o = c.requires.0 in (
       λ t. record { two = two (goal.at.returns c).Else-not-back_level; one = one (goal.at.returns c).Else-not-back_level-2; zero = c.back_level-3.ensures.0 t },
       λ t. passed_none a.w a.h o.side-W.0 o.side-H.0 (levels_of a.rows.now) a.body.now

@@ -1,10 +1,8 @@
 -- `over_regions`: what was found is told.
 use mathlib.Core.Path.{◌≡◌, refl, sym, ◌∙◌}
 use mathlib.Core.Logic.{inl, inr}
-use Prim.Native.Nat.{ℕ, ◌≤◌}
+use Prim.Native.Nat.{ℕ}
 use native.Mathlib.Omega.{arith}
-use borrow.Author.Rules.{rules}
-use borrow.Author.Tests.{not-true, not-false}
 use lib.Dec.{lit≤}
 use lib.IntN.{ℤ}
 use lib.ListN.{length}
@@ -21,7 +19,7 @@ pub convert-requires : goal.convert-requires
 convert-requires c = c.requires
 
 pub returns-then-not-convert : goal.returns-then-not-convert
-returns-then-not-convert c =    inl (c.convert.ensures.1 c.if-not-convert.true, refl, refl)
+returns-then-not-convert c = inl (c.convert.ensures.1 c.if-not-convert.true, refl, refl)
 
 abbrev begun : Else-not-convert → Start
 begun e = e.before.before.before.before.before.before.before.before.before.before
@@ -50,7 +48,7 @@ pub start-requires : goal.start-requires
 start-requires e = let o = (begun e).requires.0 in (o.side-W.1, o.side-H.1, lit≤ tt)
 
 pub returns-then-numbers_out-start : goal.returns-then-numbers_out-start
-returns-then-numbers_out-start c =    let a = (begun (goal.at.returns-then-numbers_out-start c).Else-not-convert).args in
+returns-then-numbers_out-start c = let a = (begun (goal.at.returns-then-numbers_out-start c).Else-not-convert).args in
     inr (
       found (goal.at.returns-then-numbers_out-start c).Else-not-convert,
       fit (goal.at.returns-then-numbers_out-start c).Else-not-convert,
@@ -64,7 +62,7 @@ size : (c : Else-numbers_out-start) → let a = (c.before.before.before.before.b
 size c = c.if-numbers_out-start.false ∙ c.start.ensures.0
 
 pub write_table-requires : goal.write_table-requires
-write_table-requires c =    let s = begun (goal.at.write_table-requires c).Else-not-convert in
+write_table-requires c = let s = begun (goal.at.write_table-requires c).Else-not-convert in
     let o = s.requires.0 in
     let l = (converted (goal.at.write_table-requires c).Else-not-convert).0 in (
       o.side-W.1,
@@ -78,7 +76,7 @@ write_table-requires c =    let s = begun (goal.at.write_table-requires c).Else-
     )
 
 pub returns : goal.returns
-returns c =    let a = (begun (goal.at.returns c).Else-not-convert).args in
+returns c = let a = (begun (goal.at.returns c).Else-not-convert).args in
     inr (
       found (goal.at.returns c).Else-not-convert,
       fit (goal.at.returns c).Else-not-convert,

@@ -5,8 +5,6 @@ use mathlib.Core.List.{List}
 use Prim.Native.Nat.{ℕ, ◌-◌, ◌≤◌}
 use native.Mathlib.Nat.{le_of_eq}
 use native.Mathlib.Omega.{arith}
-use borrow.Author.Rules.{rules}
-use borrow.Author.Tests.{not-true, not-false}
 use lib.Dec.{lit≤}
 use lib.IntN.{pos}
 use lib.ListN.{length, take, drop, replicate, length-drop, length-replicate}
@@ -22,7 +20,7 @@ use Rattle.fromgrid.proofs.over_tree.Goals.{Else-not-regions, Start}
 use Rattle.fromgrid.proofs.over_tree.Goals as goal
 
 pub returns-then-not-regions : goal.returns-then-not-regions
-returns-then-not-regions c =    let a = c.args in
+returns-then-not-regions c = let a = c.args in
     tree-refused a.grid.now a.tree.now (sheet_w a.grid.now) (sheet_h a.grid.now) c.requires
     a.numbers_out.now (sym c.regions.ensures.0 ∙ c.if-not-regions.true)
 
@@ -54,7 +52,7 @@ front : (n m k : ℕ) → n ≡ k → k ≤ m → n ≡ length (take n (replicat
 front n m k e h = sym (length-take-le n (replicate m (pos 0)) (omega (arith, length-replicate m (pos 0))))
 
 pub over_regions-requires : goal.over_regions-requires
-over_regions-requires c =    let s = begun (goal.at.over_regions-requires c).Else-not-regions in
+over_regions-requires c = let s = begun (goal.at.over_regions-requires c).Else-not-regions in
     let g = s.requires in
     let (r₀, r₁, r₂) = room (goal.at.over_regions-requires c).Else-not-regions in (
       subst (OfBody (sheet_w s.args.grid.now) (sheet_h s.args.grid.now)) (sym (to_end 8 s.args.grid.now))
@@ -71,7 +69,7 @@ over_regions-requires c =    let s = begun (goal.at.over_regions-requires c).Els
     )
 
 pub returns : goal.returns
-returns c =    let s = begun (goal.at.returns c).Else-not-regions in
+returns c = let s = begun (goal.at.returns c).Else-not-regions in
     let a = s.args in
     told-kept a.grid.now a.tree.now (sheet_w a.grid.now) (sheet_h a.grid.now) s.requires
     a.numbers_out.now _ (painted (goal.at.returns c).Else-not-regions) (whole (goal.at.returns c).Else-not-regions) (sheet_answer c.over_regions.result)

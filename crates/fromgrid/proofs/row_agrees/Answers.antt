@@ -1,10 +1,9 @@
 -- `row_agrees`: the row that the coarser level gives, compared with the row itself.
 use mathlib.Core.Path.{◌≡◌, refl, sym, ap, ◌∙◌, subst}
 use mathlib.Core.List.{List, ◌++◌}
-use Prim.Native.Nat.{◌+◌, ◌-◌, ◌*◌, ◌/◌, ◌≤◌}
+use Prim.Native.Nat.{◌+◌, ◌*◌, ◌/◌, ◌≤◌}
 use native.Mathlib.Nat.{sub-zero, suc-mul, mul_comm, mul-le-mul_right, le_trans}
 use native.Mathlib.Omega.{arith}
-use borrow.Author.Rules.{rules}
 use lib.IntN.{ℤ, pos}
 use lib.ListN.{length, get_or, take, drop, replicate, length-append}
 use lib.Seq.{length-take-le}
@@ -50,7 +49,7 @@ small f =
     few s.args.w s.args.h (s.args.level + 1) s.requires.0 s.requires.1 (omega (arith, s.requires.2))
 
 pub read_row-requires : goal.read_row-requires
-read_row-requires c =    let s = begun (goal.at.read_row-requires c).After-functions-n in
+read_row-requires c = let s = begun (goal.at.read_row-requires c).After-functions-n in
     let a = s.args in
     let row : a.b * c.functions-n.result + length (take c.functions-n.result zeros)
     ≤ places a.w a.h (a.level + 1) = omega (arith, front (goal.at.read_row-requires c).After-functions-n, inside (goal.at.read_row-requires c).After-functions-n) in
@@ -68,7 +67,7 @@ lent : (r : After-read_row)
 lent r = let n = r.functions-n.result in lent-front n (read r) (drop n zeros) (size r)
 
 pub next_row-requires : goal.next_row-requires
-next_row-requires c =    let s = begun (goal.at.next_row-requires c).After-functions-n in
+next_row-requires c = let s = begun (goal.at.next_row-requires c).After-functions-n in
     let a = s.args in
     let n = c.functions-n.ensures.0 in
     let parents = parents-fit a.w a.h a.level a.b (functions a.w a.level) refl s.requires.7 in (
@@ -100,10 +99,10 @@ lent_row c =
     lent-front n c.next_row.new.row (drop n zeros) (made c)
 
 pub same-requires : goal.same-requires
-same-requires c =    ap length (lent_row (goal.at.same-requires c).After-next_row) ∙ made (goal.at.same-requires c).After-next_row ∙ sym (size (goal.at.same-requires c).After-read_row) ∙ sym (ap length (lent (goal.at.same-requires c).After-read_row))
+same-requires c = ap length (lent_row (goal.at.same-requires c).After-next_row) ∙ made (goal.at.same-requires c).After-next_row ∙ sym (size (goal.at.same-requires c).After-read_row) ∙ sym (ap length (lent (goal.at.same-requires c).After-read_row))
 
 pub returns : goal.returns
-returns c =    let s = begun (goal.at.returns c).After-functions-n in
+returns c = let s = begun (goal.at.returns c).After-functions-n in
     let a = s.args in
     let L = a.level in
     let F = finer L a.body.now a.fine.now (functions a.w (L + 1)) in

@@ -4,8 +4,6 @@ use mathlib.Core.Bool.{not}
 use Prim.Native.Nat.{◌≤◌}
 use native.Mathlib.Nat.{sub-zero}
 use native.Mathlib.Omega.{arith}
-use borrow.Author.Rules.{rules}
-use borrow.Author.Tests.{not-true, not-false}
 use lib.ListN.{take}
 use Rattle.surface.specs.Table.{cause}
 use Rattle.surface.specs.Calls.{TableMeets, new_tree, refinement_cause}
@@ -27,7 +25,7 @@ handed c = slip_told c.args.slip
 
 pub returns-then-cause-ne0 : goal.returns-then-cause-ne0
 unfolding commit_outcome commit_cause
-returns-then-cause-ne0 c =    table-refused (first c.refinement_cause-cause.ensures.0 c.if-cause-ne0.true _) c.if-cause-ne0.true _
+returns-then-cause-ne0 c = table-refused (first c.refinement_cause-cause.ensures.0 c.if-cause-ne0.true _) c.if-cause-ne0.true _
     (new_tree c.args.tree.now (handed (goal.at.returns-then-cause-ne0 c).Start).box (handed (goal.at.returns-then-cause-ne0 c).Start).level) _ _ _
 
 -- past the causes of what is read
@@ -56,11 +54,11 @@ fit c =
     (sound a.w a.h a.tree.now a.numbers.now fits.0, fits.3)
 
 pub insert-n-requires : goal.insert-n-requires
-insert-n-requires c =    let t = (start (goal.at.insert-n-requires c).Else-cause-ne0).args.tree.now in
+insert-n-requires c = let t = (start (goal.at.insert-n-requires c).Else-cause-ne0).args.tree.now in
     (omega (arith, (fit (goal.at.insert-n-requires c).Else-cause-ne0).1), old-size t _ (painted (goal.at.insert-n-requires c).Else-cause-ne0), old-nested t _ (painted (goal.at.insert-n-requires c).Else-cause-ne0), refl)
 
 pub slip_of-own-requires : goal.slip_of-own-requires
-slip_of-own-requires c =    let s = start (goal.at.slip_of-own-requires c).Else-cause-ne0 in
+slip_of-own-requires c = let s = start (goal.at.slip_of-own-requires c).Else-cause-ne0 in
     let a = s.args in
     let n = sides (fit (goal.at.slip_of-own-requires c).Else-cause-ne0).0 in
     let t = a.tree.now in
@@ -101,14 +99,14 @@ compared c =
 
 pub returns-then-not-same : goal.returns-then-not-same
 unfolding commit_outcome commit_cause
-returns-then-not-same c =    let s = start (goal.at.returns-then-not-same c).Else-cause-ne0 in
+returns-then-not-same c = let s = start (goal.at.returns-then-not-same c).Else-cause-ne0 in
     table-refused {k = 19}
     (past (none (goal.at.returns-then-not-same c).Else-cause-ne0) (first (ap (λ b. cause 19 (not b)) (sym c.if-not-same.true ∙ compared (goal.at.returns-then-not-same c).After-same))
     (λ z. absurd (omega arith)) _))
     (λ z. absurd (omega arith)) _ (new_tree s.args.tree.now (handed s).box (handed s).level) _ _ _
 
 pub write_refined-requires : goal.write_refined-requires
-write_refined-requires c =    let a = (start (goal.at.write_refined-requires c).Else-cause-ne0).args in
+write_refined-requires c = let a = (start (goal.at.write_refined-requires c).Else-cause-ne0).args in
     let t = a.tree.now in
     let table = (fit (goal.at.write_refined-requires c).Else-cause-ne0).0 in
     let n = sides table in (
@@ -121,7 +119,7 @@ write_refined-requires c =    let a = (start (goal.at.write_refined-requires c).
     )
 
 pub returns : goal.returns
-returns c =    let s = start (goal.at.returns c).Else-cause-ne0 in
+returns c = let s = start (goal.at.returns c).Else-cause-ne0 in
     let a = s.args in
     let n = sides (fit (goal.at.returns c).Else-cause-ne0).0 in
     subst

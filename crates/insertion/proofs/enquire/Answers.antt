@@ -3,7 +3,6 @@ use mathlib.Core.Path.{◌≡◌, refl, sym, ap, ◌∙◌}
 use Prim.Native.Nat.{◌≤◌}
 use native.Mathlib.Nat.{sub-zero}
 use native.Mathlib.Omega.{arith}
-use borrow.Author.Rules.{rules}
 use lib.ListN.{take}
 use Rattle.surface.specs.Sheet.{Box}
 use Rattle.surface.specs.Calls.{refinement_cause}
@@ -47,11 +46,11 @@ fit c =
     (sound a.w a.h a.tree.now a.numbers.now none.0, none.3)
 
 pub insert-n-requires : goal.insert-n-requires
-insert-n-requires c =    let t = (start (goal.at.insert-n-requires c).Else-cause-ne0).args.tree.now in
+insert-n-requires c = let t = (start (goal.at.insert-n-requires c).Else-cause-ne0).args.tree.now in
     (omega (arith, (fit (goal.at.insert-n-requires c).Else-cause-ne0).1), old-size t _ (painted (goal.at.insert-n-requires c).Else-cause-ne0), old-nested t _ (painted (goal.at.insert-n-requires c).Else-cause-ne0), refl)
 
 pub slip_of-slip-requires : goal.slip_of-slip-requires
-slip_of-slip-requires c =    let s = start (goal.at.slip_of-slip-requires c).Else-cause-ne0 in
+slip_of-slip-requires c = let s = start (goal.at.slip_of-slip-requires c).Else-cause-ne0 in
     let a = s.args in
     let n = sides (fit (goal.at.slip_of-slip-requires c).Else-cause-ne0).0 in
     let t = a.tree.now in
@@ -69,7 +68,7 @@ slip_of-slip-requires c =    let s = start (goal.at.slip_of-slip-requires c).Els
 
 pub returns : goal.returns
 unfolding enquiry_outcome
-returns c =    let s = start (goal.at.returns c).Else-cause-ne0 in
+returns c = let s = start (goal.at.returns c).Else-cause-ne0 in
     let a = s.args in
     let n = sides (fit (goal.at.returns c).Else-cause-ne0).0 in
     gives-with (none (goal.at.returns c).Else-cause-ne0)

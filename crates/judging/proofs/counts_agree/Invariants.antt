@@ -1,11 +1,6 @@
-use mathlib.Core.Path.{◌≡◌, sym, ◌∙◌}
 use Prim.Native.Nat.{ℕ, ◌-◌, ◌≤◌, ◌<◌}
-use native.Mathlib.Omega.{arith}
-use borrow.Author.Rules.{rules}
-use Rattle.finite.proofs.Tests.{below_more}
-use Rattle.surface.specs.Fields.{two_bytes_at}
 use Rattle.judging.specs.Judged.{count_of}
-use Rattle.judging.proofs.CountsLaws.{Agrees, agree-all, agree-lost}
+use Rattle.judging.proofs.CountsLaws.{Agrees}
 use Rattle.judging.proofs.counts_agree.Given as goal
 
 abbrev pub invariant-loop-level : goal.invariant-loop-level

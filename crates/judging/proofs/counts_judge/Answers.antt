@@ -4,7 +4,6 @@ use mathlib.Core.Bool.{Bool, true, false, not}
 use mathlib.Core.List.{[]}
 use native.Mathlib.Omega.{arith}
 use borrow.Author.Rules.{rules}
-use borrow.Author.Tests.{not-true, not-false}
 use lib.ListN.{drop}
 use Rattle.surface.specs.Table.{cause}
 use Rattle.surface.specs.Fields.{unless, holds, field, checked}
@@ -19,14 +18,14 @@ use Rattle.judging.proofs.counts_judge.Goals as goal
 
 -- the end of the file, or another tag
 pub returns-then-at-file : goal.returns-then-at-file
-returns-then-at-file c =    let a = c.args in
+returns-then-at-file c = let a = c.args in
     let file = a.file.now in (
       omega (arith, c.if-at-file.true),
       ([], counts-lacking (count_of a.counts) _ (no-tag file a.at 2 (omega (arith, c.if-at-file.true)))),
     )
 
 pub returns-then-file-at-ne-COUNTS_TAG : goal.returns-then-file-at-ne-COUNTS_TAG
-returns-then-file-at-ne-COUNTS_TAG c =    let a = c.args in
+returns-then-file-at-ne-COUNTS_TAG c = let a = c.args in
     let file = a.file.now in (
       c.requires,
       ([], counts-lacking (count_of a.counts) _ (λ e. c.if-file-at-ne-COUNTS_TAG.true (sym (tag-there file a.at) ∙ e))),
@@ -46,7 +45,7 @@ there c =
     (tag-there a.file.now a.at ∙ c.if-file-at-ne-COUNTS_TAG.false)
 
 pub returns-in_default : goal.returns-in_default
-returns-in_default c =    let a = c.args in
+returns-in_default c = let a = c.args in
     let file = a.file.now in
     subst (λ r. judged_as r file (counts_field (count_of a.counts) (drop a.at file))) (sym c.in_default.is)
     (there (goal.at.returns-in_default c).After-field_at-counted
@@ -71,7 +70,7 @@ pub slice_bounds-counts_agree-end : goal.slice_bounds-counts_agree-end
 slice_bounds-counts_agree-end c = (whole c).2
 
 pub counts_agree-requires : goal.counts_agree-requires
-counts_agree-requires c =    let w = whole (goal.at.counts_agree-requires c).In-Body in
+counts_agree-requires c = let w = whole (goal.at.counts_agree-requires c).In-Body in
     let a = c.args in
     body-size a.file.now a.at c.in-Body.end w.2 ∙ omega (arith, w.0, w.1)
 

@@ -40,11 +40,11 @@ size c =
     (omega (arith, b.0), b.2, omega (arith, b.0, body-size a.file.now a.at end b.2))
 
 pub returns-in_default : goal.returns-in_default
-returns-in_default c =    let a = c.args in (
-      subst (λ r. inside r a.file.now) (sym c.in_default.is) tt,
-      λ W H lev e. level-faulty W H lev a.level a.file.now a.at c.field_at-f.result a.count e
-          c.field_at-f.ensures.0 c.in_default.field-0 c.in_default.is,
-    )
+returns-in_default c = let a = c.args in (
+  subst (λ r. inside r a.file.now) (sym c.in_default.is) tt,
+  λ W H lev e. level-faulty W H lev a.level a.file.now a.at c.field_at-f.result a.count e
+      c.field_at-f.ensures.0 c.in_default.field-0 c.in_default.is,
+)
 
 -- the limit as the machine has it
 bound : (c : After-limit-most)
@@ -53,7 +53,7 @@ bound : (c : After-limit-most)
 bound c = to_z-of_z w64 c.limit-most.result (sfits_of c.limit-most.type_inv) ∙ c.limit-most.ensures
 
 pub overflow_cast-most : goal.overflow_cast-most
-overflow_cast-most c =    rw (bound c) (tt, omega (arith, limit-small c.args.level (omega (arith, c.requires.0))))
+overflow_cast-most c = rw (bound c) (tt, omega (arith, limit-small c.args.level (omega (arith, c.requires.0))))
 
 pub slice_bounds-within-count : goal.slice_bounds-within-count
 slice_bounds-within-count c = (size (goal.at.slice_bounds-within-count c).In-Body).0
@@ -65,7 +65,7 @@ pub slice_bounds-within-end : goal.slice_bounds-within-end
 slice_bounds-within-end c = (size (goal.at.slice_bounds-within-end c).In-Body).1
 
 pub within-requires : goal.within-requires
-within-requires c =    (omega (arith, (size (goal.at.within-requires c).In-Body).2), rw (bound (goal.at.within-requires c).After-limit-most) (limit-small c.args.level (omega (arith, c.requires.0))))
+within-requires c = (omega (arith, (size (goal.at.within-requires c).In-Body).2), rw (bound (goal.at.within-requires c).After-limit-most) (limit-small c.args.level (omega (arith, c.requires.0))))
 
 -- the field by the test of its numbers
 told : (c : After-within) (t : Bool) → c.within.result ≡ t
@@ -85,7 +85,7 @@ told c t q W H lev e =
     to_z w64 (of_z w64 c.limit-most.result) ≡ pos (limit a.level) = to_z-of_z w64 c.limit-most.result (sfits_of c.limit-most.type_inv) ∙ c.limit-most.ensures in it)))
 
 pub returns-then-within : goal.returns-then-within
-returns-then-within c =    ((size (goal.at.returns-then-within c).In-Body).1, λ W H lev e. ((size (goal.at.returns-then-within c).In-Body).1, (_, told (goal.at.returns-then-within c).After-within true c.if-within.true W H lev e)))
+returns-then-within c = ((size (goal.at.returns-then-within c).In-Body).1, λ W H lev e. ((size (goal.at.returns-then-within c).In-Body).1, (_, told (goal.at.returns-then-within c).After-within true c.if-within.true W H lev e)))
 
 pub returns : goal.returns
 returns c = (tt, told (goal.at.returns c).After-within false c.if-within.false)

@@ -1,13 +1,8 @@
-use mathlib.Core.Path.{◌≡◌, subst}
-use mathlib.Core.List.{[]}
 use Prim.Native.Nat.{ℕ, ◌-◌, ◌≤◌}
-use native.Mathlib.Omega.{arith}
-use borrow.Author.Rules.{rules}
 use lib.ListN.{length, drop}
 use Rattle.surface.specs.TableFile.{level_fields}
 use Rattle.activity.specs.Counts.{Counted}
-use Rattle.judging.specs.Judged.{ends_at, inside}
-use Rattle.judging.proofs.JudgeLaws.{levels-none, levels-faulty, levels-good}
+use Rattle.judging.specs.Judged.{ends_at}
 use Rattle.judging.proofs.levels_judge.Given as goal
 
 abbrev pub invariant-loop-level : goal.invariant-loop-level

@@ -19,7 +19,7 @@ enum_told-1 c = search rules
 
 pub returns-in_default : goal.returns-in_default
 unfolding tree_field
-returns-in_default c =    let a = c.args in
+returns-in_default c = let a = c.args in
     subst (λ r. tree_judged r a.file.now a.w a.h a.rows.now) (sym c.in_default.is)
     (checked-faulty 2 1 1365 2 (λ t. formed a.w a.h (tree_of t)) (λ t. t) a.file.now 5 c.field_at-f.result
     c.field_at-f.ensures.0 c.in_default.field-0 c.in_default.is)
@@ -52,7 +52,7 @@ told c t q =
     c.field_at-f.ensures.0 c.in-Body.end c.in-Body.is t (sym q ∙ c.regions.ensures.0)
 
 pub returns-then-regions : goal.returns-then-regions
-returns-then-regions c =    let k = whole (goal.at.returns-then-regions c).In-Body in
+returns-then-regions c = let k = whole (goal.at.returns-then-regions c).In-Body in
     (omega (arith, k.0), k.2, c.regions.ensures.1 c.if-regions.true, told (goal.at.returns-then-regions c).After-regions true c.if-regions.true)
 
 pub returns : goal.returns

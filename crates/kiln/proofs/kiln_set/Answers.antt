@@ -22,9 +22,9 @@ left c =
     c.set-r.ensures
 
 pub returns-in-Done : goal.returns-in-Done
-returns-in-Done c =    let e = left (goal.at.returns-in-Done c).After-set-r in
+returns-in-Done c = let e = left (goal.at.returns-in-Done c).After-set-r in
     (code-done tt (ap outcome_answer (sym c.in-Done.is) ∙ e.0), e.1)
 
 pub returns-in-Refused : goal.returns-in-Refused
-returns-in-Refused c =    let e = left (goal.at.returns-in-Refused c).After-set-r in
+returns-in-Refused c = let e = left (goal.at.returns-in-Refused c).After-set-r in
     (code-refused c.in-Refused.n (ap outcome_answer (sym c.in-Refused.is) ∙ e.0), e.1)

@@ -3,7 +3,6 @@ use Rattle.surface.specs.Calls.{Answer}
 use Rattle.surface.specs.Slopes.{ExactSlopes, FloatSlopes, slopes_outcome, SlopesMeet}
 use Rattle.answers.specs.Answers.{slopes_told, slopes_answer}
 use Rattle.answers.proofs.CodeLaws.{slopes-given, slopes-refused}
-use borrow.Author.Rules.{rules}
 use Rattle.kiln.proofs.kiln_slopes.Goals.{Start}
 use Rattle.kiln.proofs.kiln_slopes.Goals as goal
 
@@ -17,11 +16,11 @@ abbrev before : (c : Start) → FloatSlopes
 before c = record { watts = c.args.watts.now; along_u = c.args.along_u.now; along_v = c.args.along_v.now }
 
 pub returns-in-Given : goal.returns-in-Given
-returns-in-Given c =    slopes-given (exactly (goal.at.returns-in-Given c).Start) (slopes_told c.in-Given.x) (before (goal.at.returns-in-Given c).Start)
+returns-in-Given c = slopes-given (exactly (goal.at.returns-in-Given c).Start) (slopes_told c.in-Given.x) (before (goal.at.returns-in-Given c).Start)
     (subst (λ r. SlopesMeet (exactly (goal.at.returns-in-Given c).Start) (slopes_answer r)) c.in-Given.is
     c.slopes-r.ensures)
 
 pub returns-in-Refused : goal.returns-in-Refused
-returns-in-Refused c =    slopes-refused (exactly (goal.at.returns-in-Refused c).Start) c.in-Refused.n (before (goal.at.returns-in-Refused c).Start)
+returns-in-Refused c = slopes-refused (exactly (goal.at.returns-in-Refused c).Start) c.in-Refused.n (before (goal.at.returns-in-Refused c).Start)
     (subst (λ r. SlopesMeet (exactly (goal.at.returns-in-Refused c).Start) (slopes_answer r)) c.in-Refused.is
     c.slopes-r.ensures)

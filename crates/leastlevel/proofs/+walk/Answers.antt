@@ -1,5 +1,5 @@
 -- `walk` meets its contract: a square away from the box, a leaf, four squares.
-use Rattle.std.proofs.Common.{ℕ, ◌+◌, ◌/◌, ◌≤◌, ◌<◌, List, length, ◌≡◌, sym, ◌∙◌, arith}
+use Rattle.std.proofs.Common.{ℕ, ◌≤◌, List, length, ◌≡◌, sym, ◌∙◌, arith}
 use Rattle.surface.specs.Sheet.{Box}
 use Rattle.leastlevel.specs.Visits.{least_in, visited_in, WalkedOver}
 use Rattle.leastlevel.proofs.WalkLaws.{readable-inside, half-less, readable-first, readable-second}
@@ -38,30 +38,34 @@ after w = (w.size, w.low, w.few)
 pub walk-p1-requires : goal.walk-p1-requires
 walk-p1-requires t c =
     let p = c.requires in
-    let ready = visited-ready _ c.args.at c.args.found.now _ c.if-b-le3.false p.4 p.5 c.visit.ensures in
-    (omega (arith, half-less p.2 c.if-b-le3.false, c.decreases),
-        (omega (arith, p), omega (arith, p), readable-first p.2 c.if-b-le3.false, ready.0, ready.1, ready.2))
+    let ready = visited-ready _ c.args.at c.args.found.now _ c.if-b-le3.false p.4 p.5 c.visit.ensures in (
+      omega (arith, half-less p.2 c.if-b-le3.false, c.decreases),
+      (omega (arith, p), omega (arith, p), readable-first p.2 c.if-b-le3.false, ready.0, ready.1, ready.2),
+    )
 
 pub walk-p2-requires : goal.walk-p2-requires
 walk-p2-requires t c =
     let p = c.requires in
-    let ready = after c.walk-p1.ensures in
-    (omega (arith, half-less p.2 c.if-b-le3.false, c.decreases),
-        (omega (arith, p), omega (arith, p), readable-second p.2 c.if-b-le3.false c.walk-p1.ensures, ready.0, ready.1, ready.2))
+    let ready = after c.walk-p1.ensures in (
+      omega (arith, half-less p.2 c.if-b-le3.false, c.decreases),
+      (omega (arith, p), omega (arith, p), readable-second p.2 c.if-b-le3.false c.walk-p1.ensures, ready.0, ready.1, ready.2),
+    )
 
 pub walk-p3-requires : goal.walk-p3-requires
 walk-p3-requires t c =
     let p = c.requires in
-    let ready = after c.walk-p2.ensures in
-    (omega (arith, half-less p.2 c.if-b-le3.false, c.decreases),
-        (omega (arith, p), omega (arith, p), readable-third p.2 c.if-b-le3.false c.walk-p1.ensures c.walk-p2.ensures, ready.0, ready.1, ready.2))
+    let ready = after c.walk-p2.ensures in (
+      omega (arith, half-less p.2 c.if-b-le3.false, c.decreases),
+      (omega (arith, p), omega (arith, p), readable-third p.2 c.if-b-le3.false c.walk-p1.ensures c.walk-p2.ensures, ready.0, ready.1, ready.2),
+    )
 
 pub walk-requires : goal.walk-requires
 walk-requires t c =
     let p = c.requires in
-    let ready = after c.walk-p3.ensures in
-    (omega (arith, half-less p.2 c.if-b-le3.false, c.decreases),
-        (omega (arith, p), omega (arith, p), readable-fourth p.2 c.if-b-le3.false c.walk-p1.ensures c.walk-p2.ensures c.walk-p3.ensures, ready.0, ready.1, ready.2))
+    let ready = after c.walk-p3.ensures in (
+      omega (arith, half-less p.2 c.if-b-le3.false, c.decreases),
+      (omega (arith, p), omega (arith, p), readable-fourth p.2 c.if-b-le3.false c.walk-p1.ensures c.walk-p2.ensures c.walk-p3.ensures, ready.0, ready.1, ready.2),
+    )
 
 pub returns : goal.returns
 returns t c =

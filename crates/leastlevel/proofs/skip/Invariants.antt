@@ -1,16 +1,8 @@
-use mathlib.Core.Path.{◌≡◌, refl, ◌∙◌, subst}
-use mathlib.Core.Bool.{cond}
-use mathlib.Core.List.{List}
-use Prim.Native.Nat.{ℕ, ◌+◌, ◌-◌, ◌≤◌, ◌<◌}
-use native.Mathlib.Omega.{arith}
-use lib.Dec.{leb}
-use lib.ListN.{length, get_or}
-use Rattle.finite.proofs.Tests.{pick}
+use Prim.Native.Nat.{ℕ, ◌+◌, ◌-◌, ◌≤◌}
+use lib.ListN.{length}
 use Rattle.surface.specs.Quadtree.{Quadtree, bytes}
 use Rattle.quadtree.specs.Subtree.{Subtree}
-use Rattle.quadtree.proofs.SubtreeLaws.{subtree-inside}
-use Rattle.leastlevel.specs.Visits.{begun}
-use Rattle.leastlevel.proofs.Forests.{Forest, forest-long, forest-inside, forest-byte, forest-next}
+use Rattle.leastlevel.proofs.Forests.{Forest}
 use Rattle.leastlevel.proofs.skip.Given as goal
 
 abbrev pub invariant-loop-next : goal.invariant-loop-next

@@ -2,7 +2,6 @@
 use mathlib.Core.Path.{refl}
 use mathlib.Core.List.{[], ◌∷◌}
 use native.Mathlib.Omega.{arith}
-use borrow.Author.Rules.{rules}
 use lib.ListN.{get_or}
 use Rattle.quadtree.specs.Subtree.{Readable}
 use Rattle.boxes.specs.Boxes.{box_of}
@@ -19,7 +18,7 @@ pub bounds-t-0 : goal.bounds-t-0
 bounds-t-0 c = readable-inside (readable (goal.at.bounds-t-0 c).Start)
 
 pub returns-then-root-le3 : goal.returns-then-root-le3
-returns-then-root-le3 c =    let a = c.args in
+returns-then-root-le3 c = let a = c.args in
     let p = c.requires in
     let b = box_of a.b in
     let l = get_or a.t.now 0 0 in
@@ -29,10 +28,10 @@ returns-then-root-le3 c =    let a = c.args in
     (omega arith) (root-meets a.w a.h b p.0 p.1 p.3) (visited-root l c.if-root-le3.true))
 
 pub walk-requires : goal.walk-requires
-walk-requires c =    (omega arith, omega arith, readable (goal.at.walk-requires c).Start, refl, omega arith, omega arith)
+walk-requires c = (omega arith, omega arith, readable (goal.at.walk-requires c).Start, refl, omega arith, omega arith)
 
 pub returns : goal.returns
-returns c =    let a = c.args in
+returns c = let a = c.args in
     let p = c.requires in
     walk-whole a.w a.h (box_of a.b) a.t.now c.walk.result c.walk.new.found
     p.0 p.1 p.2 p.3 c.walk.ensures

@@ -1,6 +1,5 @@
 -- Each way out of `last_cause` gives the first of the last causes.
 use mathlib.Core.Path.{refl, sym}
-use borrow.Author.Rules.{rules}
 use Rattle.surface.proofs.Causes.{first, past}
 use Rattle.loading.proofs.last_cause.Goals as goal
 

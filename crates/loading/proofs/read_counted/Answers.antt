@@ -1,6 +1,5 @@
 -- Each way out of `read_counted` gives the defined outcome.
 use mathlib.Core.Path.{◌≡◌, subst}
-use borrow.Author.Rules.{rules}
 use lib.ListN.{drop}
 use Rattle.surface.specs.Support.{active_count}
 use Rattle.surface.specs.TableFile.{counts_field}
@@ -14,7 +13,7 @@ use Rattle.loading.proofs.read_counted.Goals.{After-counts_judge-f}
 use Rattle.loading.proofs.read_counted.Goals as goal
 
 pub active_counts-counts-requires : goal.active_counts-counts-requires
-active_counts-counts-requires c =    let p = c.requires in
+active_counts-counts-requires c = let p = c.requires in
     (p.small-W, p.small-H, p.nested)
 
 pub counts_judge-f-requires : goal.counts_judge-f-requires
@@ -37,7 +36,7 @@ told c r q =
     c.counts_judge-f.ensures)
 
 pub read_levels-requires : goal.read_levels-requires
-read_levels-requires c =    let a = c.args in
+read_levels-requires c = let a = c.args in
     let file = a.file.now in (
       counts-passed file a.end (sheet_w file) (sheet_h file) a.rows.now c.requires c.in-Body.from
           (told (goal.at.read_levels-requires c).After-counts_judge-f _ c.in-Body.is),
@@ -45,7 +44,7 @@ read_levels-requires c =    let a = c.args in
     )
 
 pub returns-in-Faulty : goal.returns-in-Faulty
-returns-in-Faulty c =    let a = c.args in
+returns-in-Faulty c = let a = c.args in
     let file = a.file.now in
     bench-declined file a.tree_out.now a.numbers_out.now c.refused.result c.in-Faulty.c
     c.refused.ensures

@@ -1,6 +1,5 @@
 -- Each way out of `read_levels` gives the outcome of document 01.
 use mathlib.Core.Path.{◌≡◌, subst}
-use borrow.Author.Rules.{rules}
 use lib.ListN.{drop}
 use Rattle.surface.specs.TableFile.{level_fields}
 use Rattle.fields.specs.declared.Field.{Field}
@@ -25,10 +24,10 @@ told c r q =
     (c.levels_judge-f.ensures a.w a.h (levels_of a.rows.now) c.requires.1)
 
 pub fill-requires : goal.fill-requires
-fill-requires c =    (c.requires.0, told (goal.at.fill-requires c).After-levels_judge-f _ c.in-Body.is)
+fill-requires c = (c.requires.0, told (goal.at.fill-requires c).After-levels_judge-f _ c.in-Body.is)
 
 pub returns-in-Faulty : goal.returns-in-Faulty
-returns-in-Faulty c =    let a = c.args in
+returns-in-Faulty c = let a = c.args in
     let file = a.file.now in
     bench-declined file a.tree_out.now a.numbers_out.now c.refused.result c.in-Faulty.c
     c.refused.ensures

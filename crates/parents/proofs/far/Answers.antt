@@ -1,7 +1,7 @@
 -- `far`: each parent is what its call gives.
 use mathlib.Core.Path.{◌≡◌, sym, subst}
 use Prim.Native.Nat.{◌*◌, ◌≤◌}
-use borrow.Author.Rules.{rules, sfits_of}
+use borrow.Author.Rules.{sfits_of}
 use lib.Dec.{lit<}
 use lib.IntN.{nat_abs}
 use mir.Syntax.{w64}
@@ -40,20 +40,20 @@ other-kept : (n : After-other-p1) → to_z w64 (of_z w64 n.other-p1.result) ≡ 
 other-kept n = to_z-of_z w64 n.other-p1.result (sfits_of n.other-p1.type_inv)
 
 pub other-p1-requires : goal.other-p1-requires
-other-p1-requires n =    (rw (kept n.args.b n.requires.1 (lit< tt)) n.requires.1, rw (second-kept n) (second-small n))
+other-p1-requires n = (rw (kept n.args.b n.requires.1 (lit< tt)) n.requires.1, rw (second-kept n) (second-small n))
 
 pub third-requires : goal.third-requires
-third-requires o =    (
-      rw (kept o.args.a o.requires.0 (lit< tt)) o.requires.0,
-      rw (second-kept (goal.at.third-requires o).After-second-p2) (second-small (goal.at.third-requires o).After-second-p2),
-      rw (other-kept o) ((other-of o).1 wide o.requires.1 (second-small (goal.at.third-requires o).After-second-p2)),
-    )
+third-requires o = (
+  rw (kept o.args.a o.requires.0 (lit< tt)) o.requires.0,
+  rw (second-kept (goal.at.third-requires o).After-second-p2) (second-small (goal.at.third-requires o).After-second-p2),
+  rw (other-kept o) ((other-of o).1 wide o.requires.1 (second-small (goal.at.third-requires o).After-second-p2)),
+)
 
 pub other-requires : goal.other-requires
-other-requires c =    (rw (kept c.args.d c.requires.3 (lit< tt)) c.requires.3, rw (second-kept (goal.at.other-requires c).After-second-p2) (second-small (goal.at.other-requires c).After-second-p2))
+other-requires c = (rw (kept c.args.d c.requires.3 (lit< tt)) c.requires.3, rw (second-kept (goal.at.other-requires c).After-second-p2) (second-small (goal.at.other-requires c).After-second-p2))
 
 pub returns : goal.returns
-returns c =    let k0 = sym (to_z-of_z w64 c.third.result (sfits_of c.third.type_inv)) in
+returns c = let k0 = sym (to_z-of_z w64 c.third.result (sfits_of c.third.type_inv)) in
     let k1 = sym (other-kept (goal.at.returns c).After-other-p1) in
     let k2 = sym (second-kept (goal.at.returns c).After-second-p2) in
     let k3 = sym (to_z-of_z w64 c.other.result (sfits_of c.other.type_inv)) in

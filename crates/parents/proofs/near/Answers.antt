@@ -1,7 +1,7 @@
 -- `near`: each parent is what its call gives.
 use mathlib.Core.Path.{◌≡◌, sym, subst}
 use Prim.Native.Nat.{◌*◌, ◌≤◌}
-use borrow.Author.Rules.{rules, sfits_of}
+use borrow.Author.Rules.{sfits_of}
 use lib.Dec.{lit<}
 use lib.IntN.{nat_abs}
 use mir.Syntax.{w64}
@@ -40,20 +40,20 @@ other-kept : (n : After-other-p2) → to_z w64 (of_z w64 n.other-p2.result) ≡ 
 other-kept n = to_z-of_z w64 n.other-p2.result (sfits_of n.other-p2.type_inv)
 
 pub other-p2-requires : goal.other-p2-requires
-other-p2-requires n =    (rw (kept n.args.c n.requires.2 (lit< tt)) n.requires.2, rw (second-kept n) (second-small n))
+other-p2-requires n = (rw (kept n.args.c n.requires.2 (lit< tt)) n.requires.2, rw (second-kept n) (second-small n))
 
 pub other-requires : goal.other-requires
-other-requires c =    (rw (kept c.args.a c.requires.0 (lit< tt)) c.requires.0, rw (second-kept (goal.at.other-requires c).After-second-p1) (second-small (goal.at.other-requires c).After-second-p1))
+other-requires c = (rw (kept c.args.a c.requires.0 (lit< tt)) c.requires.0, rw (second-kept (goal.at.other-requires c).After-second-p1) (second-small (goal.at.other-requires c).After-second-p1))
 
 pub third-requires : goal.third-requires
-third-requires c =    (
-      rw (kept c.args.d c.requires.3 (lit< tt)) c.requires.3,
-      rw (second-kept (goal.at.third-requires c).After-second-p1) (second-small (goal.at.third-requires c).After-second-p1),
-      rw (other-kept (goal.at.third-requires c).After-other-p2) ((other-of (goal.at.third-requires c).After-other-p2).1 wide c.requires.2 (second-small (goal.at.third-requires c).After-second-p1)),
-    )
+third-requires c = (
+  rw (kept c.args.d c.requires.3 (lit< tt)) c.requires.3,
+  rw (second-kept (goal.at.third-requires c).After-second-p1) (second-small (goal.at.third-requires c).After-second-p1),
+  rw (other-kept (goal.at.third-requires c).After-other-p2) ((other-of (goal.at.third-requires c).After-other-p2).1 wide c.requires.2 (second-small (goal.at.third-requires c).After-second-p1)),
+)
 
 pub returns : goal.returns
-returns c =    let k0 = sym (to_z-of_z w64 c.other.result (sfits_of c.other.type_inv)) in
+returns c = let k0 = sym (to_z-of_z w64 c.other.result (sfits_of c.other.type_inv)) in
     let k1 = sym (second-kept (goal.at.returns c).After-second-p1) in
     let k2 = sym (other-kept (goal.at.returns c).After-other-p2) in
     let k3 = sym (to_z-of_z w64 c.third.result (sfits_of c.third.type_inv)) in

@@ -11,5 +11,5 @@ pub across-requires-2 : goal.across-requires-2
 across-requires-2 c = (c.requires.1, c.across.ensures.1 8388608000 c.requires.2)
 
 pub returns : goal.returns
-returns c =    both-back c.args.g c.args.h c.args.p c.across.result c.across-2.result
+returns c = both-back c.args.g c.args.h c.args.p c.across.result c.across-2.result
     c.requires.0 c.requires.1 c.requires.2 c.across.ensures c.across-2.ensures

@@ -13,22 +13,22 @@ pub overflow_mul-result : goal.overflow_mul-result
 overflow_mul-result c = mul-fits (literal 4 (lit< tt)) (holds c.args.b c.requires.1 (lit< tt)) (lit< tt)
 
 pub overflow_sub-result : goal.overflow_sub-result
-overflow_sub-result c =    let b = mul_holds (literal 4 (lit< tt)) (holds c.args.b c.requires.1 (lit< tt)) (lit< tt) in
+overflow_sub-result c = let b = mul_holds (literal 4 (lit< tt)) (holds c.args.b c.requires.1 (lit< tt)) (lit< tt) in
     sub-fits b (holds c.args.a c.requires.0 (lit< tt)) (lit< tt)
 
 pub overflow_sub-result-2 : goal.overflow_sub-result-2
-overflow_sub-result-2 c =    let b = mul_holds (literal 4 (lit< tt)) (holds c.args.b c.requires.1 (lit< tt)) (lit< tt) in
+overflow_sub-result-2 c = let b = mul_holds (literal 4 (lit< tt)) (holds c.args.b c.requires.1 (lit< tt)) (lit< tt) in
     let ba = sub_holds b (holds c.args.a c.requires.0 (lit< tt)) (lit< tt) in
     sub-fits ba (holds c.args.c c.requires.2 (lit< tt)) (lit< tt)
 
 pub nonzero_div-result : goal.nonzero_div-result
-nonzero_div-result c =    let b = mul_holds (literal 4 (lit< tt)) (holds c.args.b c.requires.1 (lit< tt)) (lit< tt) in
+nonzero_div-result c = let b = mul_holds (literal 4 (lit< tt)) (holds c.args.b c.requires.1 (lit< tt)) (lit< tt) in
     let ba = sub_holds b (holds c.args.a c.requires.0 (lit< tt)) (lit< tt) in
     let bac = sub_holds ba (holds c.args.c c.requires.2 (lit< tt)) (lit< tt) in
     (omega arith, quot_fits 16 bac (lit< tt))
 
 pub returns : goal.returns
-returns c =    let b = mul_holds (literal 4 (lit< tt)) (holds c.args.b c.requires.1 (lit< tt)) (lit< tt) in
+returns c = let b = mul_holds (literal 4 (lit< tt)) (holds c.args.b c.requires.1 (lit< tt)) (lit< tt) in
     let ba = sub_holds b (holds c.args.a c.requires.0 (lit< tt)) (lit< tt) in
     let bac = sub_holds ba (holds c.args.c c.requires.2 (lit< tt)) (lit< tt) in
     let x = quot-holds 16 bac (lit< tt) in (

@@ -8,19 +8,19 @@ use Rattle.parents.proofs.Algebra.{third-is, third-size}
 use Rattle.parents.proofs.third.Goals as goal
 
 pub overflow_sub-result : goal.overflow_sub-result
-overflow_sub-result c =    sub-fits (holds c.args.odd c.requires.0 (lit< tt)) (holds c.args.first c.requires.1 (lit< tt)) (lit< tt)
+overflow_sub-result c = sub-fits (holds c.args.odd c.requires.0 (lit< tt)) (holds c.args.first c.requires.1 (lit< tt)) (lit< tt)
 
 pub overflow_mul-result : goal.overflow_mul-result
 overflow_mul-result c = mul-fits (literal 6 (lit< tt)) (holds c.args.middle c.requires.2 (lit< tt)) (lit< tt)
 
 pub overflow_sub-result-2 : goal.overflow_sub-result-2
-overflow_sub-result-2 c =    let less = sub_holds (holds c.args.odd c.requires.0 (lit< tt)) (holds c.args.first c.requires.1 (lit< tt))
+overflow_sub-result-2 c = let less = sub_holds (holds c.args.odd c.requires.0 (lit< tt)) (holds c.args.first c.requires.1 (lit< tt))
     (lit< tt) in
     let six = mul_holds (literal 6 (lit< tt)) (holds c.args.middle c.requires.2 (lit< tt)) (lit< tt) in
     sub-fits less six (lit< tt)
 
 pub returns : goal.returns
-returns c =    let a = c.args in
+returns c = let a = c.args in
     let less = sub_holds (holds a.odd c.requires.0 (lit< tt)) (holds a.first c.requires.1 (lit< tt)) (lit< tt) in
     let six = mul_holds (literal 6 (lit< tt)) (holds a.middle c.requires.2 (lit< tt)) (lit< tt) in
     let x = sub_holds less six (lit< tt) in (

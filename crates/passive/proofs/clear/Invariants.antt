@@ -1,11 +1,8 @@
-use mathlib.Core.Path.{◌≡◌, refl, sym, ◌∙◌}
+use mathlib.Core.Path.{◌≡◌}
 use Prim.Native.Nat.{◌-◌, ◌≤◌}
-use native.Mathlib.Omega.{arith}
-use borrow.Author.Rules.{rules}
 use lib.ListN.{length}
 use Rattle.surface.specs.Table.{start, slots}
-use Rattle.passive.specs.Cleared.{cleared, ClearedTo}
-use Rattle.passive.proofs.SliceLaws.{slice-whole}
+use Rattle.passive.specs.Cleared.{ClearedTo}
 use Rattle.passive.proofs.clear.Given as goal
 
 abbrev pub invariant-loop-level : goal.invariant-loop-level

@@ -1,14 +1,11 @@
 -- Before each turn the rows below b are cleared.
-use mathlib.Core.Path.{◌≡◌, sym, ◌∙◌, subst}
-use mathlib.Core.List.{List}
-use Prim.Native.Nat.{◌+◌, ◌-◌, ◌*◌, ◌≤◌, ◌<◌}
+use mathlib.Core.Path.{sym, ◌∙◌, subst}
+use Prim.Native.Nat.{◌+◌, ◌≤◌, ◌<◌}
 use native.Mathlib.Nat.{le-add_right}
 use native.Mathlib.Omega.{arith}
-use borrow.Author.Rules.{rules}
-use lib.IntN.{ℤ}
 use lib.ListN.{length}
 use Rattle.surface.specs.Sheet.{functions}
-use Rattle.surface.specs.Table.{start, slots}
+use Rattle.surface.specs.Table.{start}
 use Rattle.activity.proofs.WindowLaws.{eighths-le}
 use Rattle.coefficients.proofs.Parts.{row-end, row_next, rows_none}
 use Rattle.passive.specs.Cleared.{ClearedTo}
@@ -18,7 +15,7 @@ use Rattle.passive.proofs.clear_level.Goals.{In-loop-b}
 use Rattle.passive.proofs.clear_level.Goals as goal
 
 pub loop-b-init : goal.loop-b-init
-loop-b-init c =    let first = c.start-from.ensures.0 in
+loop-b-init c = let first = c.start-from.ensures.0 in
     let a = c.args in (
       omega arith,
       first ∙ rows_none _ c.functions-n.result,
@@ -41,10 +38,10 @@ inside c =
     c.functions-n.ensures.0 loop.invariant.1 (omega (arith, c.requires.2)) (row c))
 
 pub clear_row-requires : goal.clear_row-requires
-clear_row-requires c =    omega (arith, c.eighths-e.ensures, eighths-le c.args.level)
+clear_row-requires c = omega (arith, c.eighths-e.ensures, eighths-le c.args.level)
 
 pub loop-b-preserved : goal.loop-b-preserved
-loop-b-preserved c =    let loop = c.loop-b in
+loop-b-preserved c = let loop = c.loop-b in
     let a = c.args in
     let n = c.functions-n.result in (
       omega (arith, c.loop-b-test.true),
@@ -57,7 +54,7 @@ loop-b-preserved c =    let loop = c.loop-b in
     )
 
 pub returns : goal.returns
-returns c =    let loop = c.loop-b in
+returns c = let loop = c.loop-b in
     let a = c.args in (
       loop.invariant.2,
       λ before done. subst (λ k. ClearedTo k a.w a.h a.rows.now before loop.out)

@@ -1,18 +1,10 @@
-use mathlib.Core.Path.{◌≡◌, sym, ◌∙◌, subst}
+use mathlib.Core.Path.{◌≡◌}
 use mathlib.Core.List.{List}
-use Prim.Native.Nat.{◌+◌, ◌-◌, ◌*◌, ◌≤◌, ◌<◌}
-use native.Mathlib.Nat.{le-add_right}
-use native.Mathlib.Omega.{arith}
-use borrow.Author.Rules.{rules}
+use Prim.Native.Nat.{◌+◌, ◌-◌, ◌*◌, ◌≤◌}
 use lib.IntN.{ℤ}
 use lib.ListN.{length}
-use Rattle.surface.specs.Sheet.{functions}
 use Rattle.surface.specs.Table.{start, slots}
-use Rattle.activity.proofs.WindowLaws.{eighths-le}
-use Rattle.coefficients.proofs.Parts.{row-end, row_next, rows_none}
 use Rattle.passive.specs.Cleared.{ClearedTo}
-use Rattle.passive.proofs.SliceLaws.{rows_end}
-use Rattle.passive.proofs.ClearLaws.{row-cleared}
 use Rattle.passive.proofs.clear_level.Given as goal
 
 abbrev pub invariant-loop-b : goal.invariant-loop-b

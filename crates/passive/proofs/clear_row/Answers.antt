@@ -1,17 +1,16 @@
 -- Before each turn the places below a are cleared.
 use mathlib.Core.Path.{ap, ◌∙◌}
-use Prim.Native.Nat.{◌≤◌, ◌-◌, ◌%◌}
+use Prim.Native.Nat.{◌%◌}
 use native.Mathlib.Omega.{arith}
-use borrow.Author.Rules.{rules}
 use lib.Dec.{leb}
 use lib.ListN.{set}
 use Rattle.passive.specs.Cleared.{kept_if}
-use Rattle.passive.proofs.RowLaws.{Rule, Turn, turn-none, turn-here, turn-set, turn-all}
+use Rattle.passive.proofs.RowLaws.{turn-none, turn-here, turn-set, turn-all}
 use Rattle.passive.proofs.clear_row.Invariants.{rule}
 use Rattle.passive.proofs.clear_row.Goals as goal
 
 pub loop-a-preserved : goal.loop-a-preserved
-loop-a-preserved c =    let loop = c.loop-a in
+loop-a-preserved c = let loop = c.loop-a in
     let args = c.args in
     let row = args.row.now in (
       omega arith,
@@ -22,7 +21,7 @@ loop-a-preserved c =    let loop = c.loop-a in
     )
 
 pub returns : goal.returns
-returns c =    let loop = c.loop-a in
+returns c = let loop = c.loop-a in
     let args = c.args in
     turn-all rule args.e args.marks args.row.now args.row.now loop.a (omega arith) loop.invariant.1
 

@@ -1,11 +1,6 @@
-use mathlib.Core.Path.{ap, ◌∙◌}
-use Prim.Native.Nat.{◌≤◌, ◌-◌, ◌%◌}
-use native.Mathlib.Omega.{arith}
-use borrow.Author.Rules.{rules}
-use lib.Dec.{leb}
-use lib.ListN.{set}
+use Prim.Native.Nat.{◌≤◌, ◌-◌}
 use Rattle.passive.specs.Cleared.{kept_if}
-use Rattle.passive.proofs.RowLaws.{Rule, Turn, turn-none, turn-here, turn-set, turn-all}
+use Rattle.passive.proofs.RowLaws.{Rule, Turn}
 use Rattle.passive.proofs.clear_row.Given as goal
 
 abbrev pub rule : Rule

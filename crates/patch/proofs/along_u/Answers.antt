@@ -6,43 +6,43 @@ use Rattle.patch.proofs.Lines.{down, next, column-left, columns}
 use Rattle.patch.proofs.along_u.Goals as goal
 
 pub half_0-requires : goal.half_0-requires
-half_0-requires c =    column-left 0 c.args.r.now c.requires.1 c.requires.2 0 (lit< tt) refl
+half_0-requires c = column-left 0 c.args.r.now c.requires.1 c.requires.2 0 (lit< tt) refl
 
 pub half_0-requires-then-g-eq0 : goal.half_0-requires-then-g-eq0
-half_0-requires-then-g-eq0 c =    column-left 0 c.args.r.now c.requires.1 c.requires.2 1 (lit< tt) c.half_0.ensures
+half_0-requires-then-g-eq0 c = column-left 0 c.args.r.now c.requires.1 c.requires.2 1 (lit< tt) c.half_0.ensures
 
 pub half_0-requires-then-g-eq0-2 : goal.half_0-requires-then-g-eq0-2
-half_0-requires-then-g-eq0-2 c =    let p = c.args.r.now in
+half_0-requires-then-g-eq0-2 c = let p = c.args.r.now in
     column-left 0 p c.requires.1 c.requires.2 2 (lit< tt) (next down 0 p 1 c.half_0.ensures c.half_0-then-g-eq0.ensures)
 
 pub half_0-requires-then-g-eq0-3 : goal.half_0-requires-then-g-eq0-3
-half_0-requires-then-g-eq0-3 c =    let p = c.args.r.now in
+half_0-requires-then-g-eq0-3 c = let p = c.args.r.now in
     let e = next down 0 p 1 c.half_0.ensures c.half_0-then-g-eq0.ensures in
     column-left 0 p c.requires.1 c.requires.2 3 (lit< tt) (next down 0 p 2 e c.half_0-then-g-eq0-2.ensures)
 
 pub half_1-requires : goal.half_1-requires
-half_1-requires c =    column-left 1 c.args.r.now c.requires.1 c.requires.2 0 (lit< tt) refl
+half_1-requires c = column-left 1 c.args.r.now c.requires.1 c.requires.2 0 (lit< tt) refl
 
 pub half_1-requires-else-g-eq0 : goal.half_1-requires-else-g-eq0
-half_1-requires-else-g-eq0 c =    column-left 1 c.args.r.now c.requires.1 c.requires.2 1 (lit< tt) c.half_1.ensures
+half_1-requires-else-g-eq0 c = column-left 1 c.args.r.now c.requires.1 c.requires.2 1 (lit< tt) c.half_1.ensures
 
 pub half_1-requires-else-g-eq0-2 : goal.half_1-requires-else-g-eq0-2
-half_1-requires-else-g-eq0-2 c =    let p = c.args.r.now in
+half_1-requires-else-g-eq0-2 c = let p = c.args.r.now in
     column-left 1 p c.requires.1 c.requires.2 2 (lit< tt) (next down 1 p 1 c.half_1.ensures c.half_1-else-g-eq0.ensures)
 
 pub half_1-requires-else-g-eq0-3 : goal.half_1-requires-else-g-eq0-3
-half_1-requires-else-g-eq0-3 c =    let p = c.args.r.now in
+half_1-requires-else-g-eq0-3 c = let p = c.args.r.now in
     let e = next down 1 p 1 c.half_1.ensures c.half_1-else-g-eq0.ensures in
     column-left 1 p c.requires.1 c.requires.2 3 (lit< tt) (next down 1 p 2 e c.half_1-else-g-eq0-2.ensures)
 
 pub returns-then-g-eq0 : goal.returns-then-g-eq0
-returns-then-g-eq0 c =    let p = c.args.r.now in
+returns-then-g-eq0 c = let p = c.args.r.now in
     let e = next down 0 p 2 (next down 0 p 1 c.half_0.ensures c.half_0-then-g-eq0.ensures) c.half_0-then-g-eq0-2.ensures in
     rw c.if-g-eq0.true
     (next down 0 p 3 e c.half_0-then-g-eq0-3.ensures ∙ columns 0 p c.requires.1)
 
 pub returns-else-g-eq0 : goal.returns-else-g-eq0
-returns-else-g-eq0 c =    let p = c.args.r.now in
+returns-else-g-eq0 c = let p = c.args.r.now in
     let e = next down 1 p 2 (next down 1 p 1 c.half_1.ensures c.half_1-else-g-eq0.ensures) c.half_1-else-g-eq0-2.ensures in
     let n = c.if-g-eq0.false in
     let h : c.args.g ≡ 1 = omega arith in

@@ -1,17 +1,17 @@
 -- Each child is what the calls give, at its parent's place.
 use mathlib.Core.Path.{◌∙◌}
 use lib.IntN.{◌+ℤ◌}
-use borrow.Author.Rules.{rules, sfits_of}
+use borrow.Author.Rules.{sfits_of}
 use Rattle.patch.specs.Steps.{even_of, placed}
 use Rattle.patch.proofs.Lines.{given, odd_is, children-1, line}
 use Rattle.patch.proofs.half_1.Goals as goal
 
 -- too far back for search
 pub put-requires-4 : goal.put-requires-4
-put-requires-4 c =    c.requires.3
+put-requires-4 c = c.requires.3
 
 pub returns : goal.returns
-returns c =    let s = c.args in
+returns c = let s = c.args in
     let p = s.r.now in
     let A = placed p s.i in
     let B = placed p s.j in

@@ -17,17 +17,17 @@ pub overflow_mul-result : goal.overflow_mul-result
 overflow_mul-result c = mul-fits (literal 4 (lit< tt)) (holds c.args.y c.requires.1 (lit< tt)) (lit< tt)
 
 pub overflow_add-result : goal.overflow_add-result
-overflow_add-result c =    let yz = holds c.args.yz c.requires.0 (lit< tt) in
+overflow_add-result c = let yz = holds c.args.yz c.requires.0 (lit< tt) in
     let y = mul_holds (literal 4 (lit< tt)) (holds c.args.y c.requires.1 (lit< tt)) (lit< tt) in
     add-fits yz y (lit< tt)
 
 pub overflow_add-result-2 : goal.overflow_add-result-2
-overflow_add-result-2 c =    let yz = holds c.args.yz c.requires.0 (lit< tt) in
+overflow_add-result-2 c = let yz = holds c.args.yz c.requires.0 (lit< tt) in
     let y = mul_holds (literal 4 (lit< tt)) (holds c.args.y c.requires.1 (lit< tt)) (lit< tt) in
     add-fits (add_holds yz y (lit< tt)) (holds c.args.xy c.requires.2 (lit< tt)) (lit< tt)
 
 pub returns : goal.returns
-returns c x z e f =    let yz = holds c.args.yz c.requires.0 (lit< tt) in
+returns c x z e f = let yz = holds c.args.yz c.requires.0 (lit< tt) in
     let y = mul_holds (literal 4 (lit< tt)) (holds c.args.y c.requires.1 (lit< tt)) (lit< tt) in
     (add_holds (add_holds yz y (lit< tt)) (holds c.args.xy c.requires.2 (lit< tt)) (lit< tt)).same
     ∙ (λ i. f i +ℤ pos 4 *ℤ c.args.y +ℤ e i)

@@ -7,12 +7,12 @@ use Rattle.patch.proofs.Lines.{along-v-four}
 use Rattle.patch.proofs.subdivide.Goals as goal
 
 pub along_v-requires : goal.along_v-requires
-along_v-requires c =    let g = c.requires.0 in
+along_v-requires c = let g = c.requires.0 in
     let h = c.requires.1 in
     (omega arith, four-by-four c.args.p _ c.well_formed.0, bounded-le c.args.p (lit≤ tt) c.requires.2)
 
 pub along_u-requires : goal.along_u-requires
-along_u-requires c =    let g = c.requires.0 in
+along_u-requires c = let g = c.requires.0 in
     let h = c.requires.1 in (
       omega arith,
       rw c.along_v.ensures (along-v-four _ c.args.p),
@@ -20,5 +20,5 @@ along_u-requires c =    let g = c.requires.0 in
     )
 
 pub returns : goal.returns
-returns c =    rw (c.along_u.ensures, c.along_v.ensures)
+returns c = rw (c.along_u.ensures, c.along_v.ensures)
     (subdivides c.args.p c.args.g c.args.h c.requires.0 c.requires.1)

@@ -4,7 +4,6 @@ use mathlib.Core.Bool.{cond}
 use mathlib.Core.List.{List}
 use Prim.Native.Nat.{ℕ, ◌*◌, ◌≤◌}
 use native.Mathlib.Omega.{arith}
-use borrow.Author.Rules.{rules}
 use borrow.Author.Tests.{lt-ltb, le-ltb, eq-eqb, ne_eqb}
 use lib.Dec.{eqb}
 use lib.ListN.{length}
@@ -52,13 +51,13 @@ unfolding activity_outcome activity_cause
 returns-then-level-gt3 c = slice-refused (past (none (goal.at.returns-then-level-gt3 c).Else-region-ne0) (rw (lt-ltb 3 _ c.if-level-gt3.true))) (λ z. omega arith) tt _ _
 
 pub places-requires : goal.places-requires
-places-requires c =    let a = c.args in
+places-requires c = let a = c.args in
     let sides = region-none a.w a.h a.tree.now (none (goal.at.places-requires c).Else-region-ne0) in
     (sides.1, sides.2, c.if-level-gt3.false)
 
 pub returns-then-out-places : goal.returns-then-out-places
 unfolding activity_outcome activity_cause
-returns-then-out-places c =    slice-refused
+returns-then-out-places c = slice-refused
     (past (none (goal.at.returns-then-out-places c).Else-region-ne0)
     (rw (le-ltb 3 _ c.if-level-gt3.false, ne_eqb _ _ (λ p. c.if-out-places.true (p ∙ sym c.places.ensures.0)))))
     (λ z. omega arith) tt _ _
@@ -70,15 +69,15 @@ size : (c : Else-out-places)
 size c = c.if-out-places.false ∙ c.places.ensures.0
 
 pub functions-n-requires : goal.functions-n-requires
-functions-n-requires c =    let a = c.args in
+functions-n-requires c = let a = c.args in
     ((region-none a.w a.h a.tree.now (none (goal.at.functions-n-requires c).Else-region-ne0)).1, c.if-level-gt3.false)
 
 pub functions-m-requires : goal.functions-m-requires
-functions-m-requires c =    let a = c.args in
+functions-m-requires c = let a = c.args in
     ((region-none a.w a.h a.tree.now (none (goal.at.functions-m-requires c).Else-region-ne0)).2, c.if-level-gt3.false)
 
 pub mark_level-requires : goal.mark_level-requires
-mark_level-requires c =    let a = c.args in
+mark_level-requires c = let a = c.args in
     let t = a.tree.now in
     let sides = region-none a.w a.h t (none (goal.at.mark_level-requires c).Else-region-ne0) in
     let n = c.functions-n.ensures.0 in
@@ -87,7 +86,7 @@ mark_level-requires c =    let a = c.args in
 
 pub returns : goal.returns
 unfolding activity_outcome activity_cause
-returns c =    let a = c.args in
+returns c = let a = c.args in
     let t = a.tree.now in
     let sides = region-none a.w a.h t (none (goal.at.returns c).Else-region-ne0) in
     slice-done (past (none (goal.at.returns c).Else-region-ne0) (rw (le-ltb 3 _ c.if-level-gt3.false, eq-eqb _ _ (size (goal.at.returns c).Else-out-places)))) refl

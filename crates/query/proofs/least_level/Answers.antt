@@ -2,7 +2,6 @@
 use mathlib.Core.Path.{◌≡◌, sym, ◌∙◌}
 use Prim.Native.Nat.{ℕ, ◌≤◌}
 use native.Mathlib.Omega.{arith}
-use borrow.Author.Rules.{rules}
 use Rattle.finite.proofs.Minima.{least-le-top}
 use Rattle.surface.specs.Sheet.{Box, quarters}
 use Rattle.surface.specs.Support.{in_box}
@@ -30,7 +29,7 @@ none : (c : Else-region-ne0)
 none c = sym c.if-region-ne0.false ∙ c.region_cause-region.ensures.0
 
 pub box_cause-past-requires : goal.box_cause-past-requires
-box_cause-past-requires c =    let a = c.args in
+box_cause-past-requires c = let a = c.args in
     let sides = region-none a.w a.h a.tree.now (none c) in
     (sides.1, sides.2)
 
@@ -44,7 +43,7 @@ inside : (c : Else-past-ne0)
 inside c = sym c.if-past-ne0.false ∙ c.box_cause-past.ensures
 
 pub under-found-requires : goal.under-found-requires
-under-found-requires c =    let a = c.args in
+under-found-requires c = let a = c.args in
     let sides = region-none a.w a.h a.tree.now (none (goal.at.under-found-requires c).Else-region-ne0) in
     (sides.1, sides.2, sides.3, box-none a.w a.h (box_at (goal.at.under-found-requires c).Start) (inside c))
 
@@ -72,6 +71,6 @@ same-levels p q r = rw (p, q, r)
 
 pub returns : goal.returns
 unfolding least_outcome
-returns c =    let u = c.under-found.ensures in
+returns c = let u = c.under-found.ensures in
     gives-with (past (none (goal.at.returns c).Else-region-ne0) (inside (goal.at.returns c).Else-past-ne0))
     (same-levels u.lowest u.highest u.counted)

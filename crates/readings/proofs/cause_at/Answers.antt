@@ -3,7 +3,6 @@ use mathlib.Core.Path.{◌≡◌, sym, ◌∙◌}
 use mathlib.Core.Bool.{and-false}
 use Prim.Native.Nat.{◌≤◌, ◌<◌}
 use native.Mathlib.Omega.{arith}
-use borrow.Author.Rules.{rules}
 use borrow.Author.Tests.{le-leb, lt-leb}
 use Rattle.surface.specs.Table.{table_cause}
 use Rattle.surface.specs.Calls.{reading_cause}
@@ -39,11 +38,11 @@ overflow_mul-h c = omega (arith, within (goal.at.overflow_mul-h c).Else-refusal-
 
 pub returns-then-h-v : goal.returns-then-h-v
 unfolding reading_cause
-returns-then-h-v c =    (past (none (goal.at.returns-then-h-v c).Else-refusal-ne0) (simp (lt-leb _ _ c.if-h-v.true, and-false)), λ e. absurd (omega arith))
+returns-then-h-v c = (past (none (goal.at.returns-then-h-v c).Else-refusal-ne0) (simp (lt-leb _ _ c.if-h-v.true, and-false)), λ e. absurd (omega arith))
 
 pub returns : goal.returns
 unfolding reading_cause
-returns c =    (
-      past (none (goal.at.returns c).Else-refusal-ne0) (simp (le-leb _ _ c.if-w-u.false, le-leb _ _ c.if-h-v.false)),
-      λ e. c.check-refusal.ensures.1 c.if-refusal-ne0.false,
-    )
+returns c = (
+  past (none (goal.at.returns c).Else-refusal-ne0) (simp (le-leb _ _ c.if-w-u.false, le-leb _ _ c.if-h-v.false)),
+  λ e. c.check-refusal.ensures.1 c.if-refusal-ne0.false,
+)

@@ -3,14 +3,14 @@ use mathlib.Core.Path.{◌≡◌, sym, ap, ◌∙◌}
 use mir.Syntax.{w64}
 use mir.Val.{of_z, to_z}
 use mir.ValLaws.{to_z-of_z}
-use borrow.Author.Rules.{rules, sfits_of}
+use borrow.Author.Rules.{sfits_of}
 use Rattle.surface.specs.Calls.{gives, whole_watts}
 use Rattle.answers.specs.Answers.{exact_answer}
 use Rattle.readings.proofs.ReadingLaws.{display-given, display-refused}
 use Rattle.readings.proofs.display.Goals as goal
 
 pub returns-in-Numerator : goal.returns-in-Numerator
-returns-in-Numerator c =    let a = c.args in
+returns-in-Numerator c = let a = c.args in
     let n = c.in-Numerator.n in
     let rounded = c.whole_watts.result in
     let same : to_z w64 (of_z w64 rounded) ≡ whole_watts n =
@@ -22,6 +22,6 @@ returns-in-Numerator c =    let a = c.args in
     (ap exact_answer (sym c.in-Numerator.is) ∙ c.exact-r.ensures)
 
 pub returns-in-Refused : goal.returns-in-Refused
-returns-in-Refused c =    let a = c.args in
+returns-in-Refused c = let a = c.args in
     display-refused a.w a.h a.tree.now a.numbers.now a.u a.v c.in-Refused.c
     (ap exact_answer (sym c.in-Refused.is) ∙ c.exact-r.ensures)

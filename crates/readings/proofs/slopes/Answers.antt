@@ -3,7 +3,6 @@ use mathlib.Core.Path.{refl, subst}
 use mathlib.Core.Bool.{true}
 use Prim.Native.Nat.{◌^◌}
 use lib.IntN.{ℤ}
-use borrow.Author.Rules.{rules}
 use mir.Syntax.{w64}
 use mir.Val.{SFits, to_z, of_z}
 use mir.ValLaws.{to_z-of_z}
@@ -20,7 +19,7 @@ read_back : (P : ℤ → Type 0) {z : ℤ} → SFits w64 z → P (to_z w64 (of_z
 read_back P {z} f p = subst P (to_z-of_z w64 z f) p
 
 pub returns-in-At : goal.returns-in-At
-returns-in-At c =    let a = c.args in
+returns-in-At c = let a = c.args in
     let x = c.in-At.x in
     let found = subst (FoundMeets a.w a.h a.tree.now a.numbers.now a.u a.v true) c.in-At.is
     c.read-r.ensures in
@@ -35,7 +34,7 @@ returns-in-At c =    let a = c.args in
     })
 
 pub returns-in-Refused : goal.returns-in-Refused
-returns-in-Refused c =    let a = c.args in
+returns-in-Refused c = let a = c.args in
     slopes-refused a.w a.h a.tree.now a.numbers.now a.u a.v c.in-Refused.c
     (subst (FoundMeets a.w a.h a.tree.now a.numbers.now a.u a.v true) c.in-Refused.is
     c.read-r.ensures)

@@ -1,7 +1,6 @@
 -- `carry_over` leaves carried values at active places, and 0 at passive ones.
 use mathlib.Core.Path.{ap, ◌∙◌}
 use mathlib.Core.Bool.{cond}
-use borrow.Author.Rules.{rules}
 use lib.IntN.{pos}
 use lib.ListN.{length}
 use Rattle.surface.specs.Support.{active}
@@ -15,11 +14,11 @@ use Rattle.refinement.specs.Refined.{over_rows}
 use Rattle.refinement.proofs.carry_over.Goals as goal
 
 pub clear-requires : goal.clear-requires
-clear-requires c =    let p = c.requires in
+clear-requires c = let p = c.requires in
     (p.0, p.1, ap length c.fill.ensures ∙ slice-length _ _ _, p.5)
 
 pub returns : goal.returns
-returns c =    let a = c.args in
+returns c = let a = c.args in
     let old = carried a.w a.h (levels_of a.rows.now) (coefficients a.w a.h a.numbers.now) in
     c.clear.ensures
     ∙ slice-cong a.w a.h (cleared a.w a.h a.new.now _)

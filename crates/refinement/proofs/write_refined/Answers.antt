@@ -2,7 +2,6 @@
 use mathlib.Core.Path.{◌≡◌, refl, sym, ◌∙◌}
 use Prim.Native.Nat.{◌≤◌}
 use native.Mathlib.Omega.{arith}
-use borrow.Author.Rules.{rules}
 use lib.ListN.{length}
 use Rattle.surface.specs.Table.{slots}
 use Rattle.surface.proofs.RefusalLaws.{outputs}
@@ -12,7 +11,7 @@ use Rattle.refinement.proofs.write_refined.Goals.{Else-late-ne0}
 use Rattle.refinement.proofs.write_refined.Goals as goal
 
 pub returns-then-late-ne0 : goal.returns-then-late-ne0
-returns-then-late-ne0 c =    let a = c.args in
+returns-then-late-ne0 c = let a = c.args in
     table-refused c.outputs_cause-late.ensures c.if-late-ne0.true _ a.tree.now _ _ _
 
 -- past 16 and 17
@@ -28,11 +27,11 @@ pub put-requires : goal.put-requires
 put-requires c = omega (arith, (fit (goal.at.put-requires c).Else-late-ne0).0)
 
 pub carry_over-requires : goal.carry_over-requires
-carry_over-requires c =    let p = c.requires in
+carry_over-requires c = let p = c.requires in
     (p.0, p.1, p.2, (fit (goal.at.carry_over-requires c).Else-late-ne0).1, p.3, p.4, p.5)
 
 pub returns : goal.returns
-returns c =    let a = c.args in
+returns c = let a = c.args in
     table_done (sym c.if-late-ne0.false ∙ c.outputs_cause-late.ensures) refl c.carry_over.ensures
     a.tree.now a.tree_out.now _ a.numbers_out.now
     (put_front a.tree.now a.tree_out.now _ _ c.put.ensures)

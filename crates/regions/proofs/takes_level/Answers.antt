@@ -2,8 +2,6 @@
 use mathlib.Core.Bool.{false≢true}
 use mathlib.Core.Path.{sym, ◌∙◌}
 use native.Mathlib.Omega.{arith}
-use borrow.Author.Rules.{rules}
-use borrow.Author.Tests.{not-false}
 use Rattle.boxes.specs.Boxes.{box_at}
 use Rattle.boxes.proofs.BoxLaws.{box-holds}
 use Rattle.regions.proofs.PaintLaws.{none-level, three-levels}
@@ -13,7 +11,7 @@ pub returns-then-not-holds : goal.returns-then-not-holds
 returns-then-not-holds c e = absurd (false≢true e)
 
 pub returns-then-level-eq3 : goal.returns-then-level-eq3
-returns-then-level-eq3 c e =    let a = c.args in
+returns-then-level-eq3 c e = let a = c.args in
     record {
       inside = λ q r. box-holds (box_at a.corners.now) a.x a.y a.side q r
           (sym c.holds.ensures ∙ c.if-not-holds.false);
@@ -21,11 +19,11 @@ returns-then-level-eq3 c e =    let a = c.args in
     }
 
 pub none_in-requires : goal.none_in-requires
-none_in-requires c =    let p = c.requires in
+none_in-requires c = let p = c.requires in
     (omega (arith, c.if-level-eq3.false, p.3), p.0, p.1, p.2)
 
 pub returns : goal.returns
-returns c e =    let a = c.args in
+returns c e = let a = c.args in
     let p = c.requires in
     record {
       inside = λ q r. box-holds (box_at a.corners.now) a.x a.y a.side q r

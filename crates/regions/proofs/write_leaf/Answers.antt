@@ -1,5 +1,4 @@
 -- `write_leaf` meets its contract.
-use borrow.Author.Rules.{rules}
 use Rattle.regions.proofs.BuildLaws.{leaf-at}
 use Rattle.regions.proofs.write_leaf.Goals as goal
 

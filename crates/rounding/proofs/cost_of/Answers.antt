@@ -18,7 +18,7 @@ small : (c : Else-n-lt0) → nat_abs (to_z w64 (of_z w64 c.args.n)) < 2 ^ 63
 small c = rw (kept c) c.ranges.n.sfits
 
 pub returns-then-n-lt0 : goal.returns-then-n-lt0
-returns-then-n-lt0 c =    cost-none c.args.tariff (below c.args.n c.ranges.n c.if-n-lt0.true)
+returns-then-n-lt0 c = cost-none c.args.tariff (below c.args.n c.ranges.n c.if-n-lt0.true)
 
 pub overflow_cast-numerator : goal.overflow_cast-numerator
 overflow_cast-numerator c = cast-up (kept c) c.ranges.n.sfits
@@ -36,4 +36,4 @@ pub overflow_add-result-2 : goal.overflow_add-result-2
 overflow_add-result-2 c = sum_fits _ (omega (arith, small c)) (omega arith) c.requires (omega arith)
 
 pub returns : goal.returns
-returns c =    cost-some c.args.tariff (not-below c.args.n c.ranges.n c.if-n-lt0.false) (kept c)
+returns c = cost-some c.args.tariff (not-below c.args.n c.ranges.n c.if-n-lt0.false) (kept c)

@@ -14,9 +14,9 @@ pub overflow_sub-result : goal.overflow_sub-result
 overflow_sub-result c = less-fits c.args.n c.ranges.n
 
 pub returns-then-n-lt0 : goal.returns-then-n-lt0
-returns-then-n-lt0 c =    let n = c.args.n in
+returns-then-n-lt0 c = let n = c.args.n in
     let f = c.ranges.n in floor-less n f (omega (arith, lt_z-true, divided n, tested n f))
 
 pub returns-else-n-lt0 : goal.returns-else-n-lt0
-returns-else-n-lt0 c =    let n = c.args.n in
+returns-else-n-lt0 c = let n = c.args.n in
     let f = c.ranges.n in floor-same n f (omega (arith, lt_z-false-dn, divided n, tested n f))

@@ -11,10 +11,10 @@ pub overflow_add-result : goal.overflow_add-result
 overflow_add-result c = raised-fits c.args.n c.ranges.n (omega arith)
 
 pub returns-then-remainder-lt0 : goal.returns-then-remainder-lt0
-returns-then-remainder-lt0 c =    let n = c.args.n in
+returns-then-remainder-lt0 c = let n = c.args.n in
     let f = c.ranges.n in
     left-raised n f (omega arith) (omega (arith, lt_z-true, divided n, tested n f))
 
 pub returns-else-remainder-lt0 : goal.returns-else-remainder-lt0
-returns-else-remainder-lt0 c =    let n = c.args.n in
+returns-else-remainder-lt0 c = let n = c.args.n in
     let f = c.ranges.n in left-same n f (omega (arith, lt_z-false-dn, tested n f))

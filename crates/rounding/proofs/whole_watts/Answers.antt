@@ -1,6 +1,5 @@
 -- `rounding::whole_watts` meets its contract: the floor, and 1 more where at least D/2 is left over.
 use native.Mathlib.Omega.{arith}
-use borrow.Author.Rules.{rules}
 use Rattle.rounding.proofs.FloorLaws.{lt_z-true, lt_z-false-up, Floored, floored, tested-left}
 use Rattle.rounding.proofs.FloorLaws.{more-fits, whole-more, whole_same}
 use Rattle.rounding.proofs.whole_watts.Goals.{After-left_over-left}
@@ -21,5 +20,5 @@ pub overflow_add-result : goal.overflow_add-result
 overflow_add-result c = more-fits (known (goal.at.overflow_add-result c).After-left_over-left) (omega arith)
 
 pub returns-else-left-lt-HALF : goal.returns-else-left-lt-HALF
-returns-else-left-lt-HALF c =    let d = known (goal.at.returns-else-left-lt-HALF c).After-left_over-left in
+returns-else-left-lt-HALF c = let d = known (goal.at.returns-else-left-lt-HALF c).After-left_over-left in
     whole-more d (omega arith) (omega (arith, lt_z-false-up, d, tested-left d))

@@ -1,5 +1,4 @@
 -- `raise_quarter` meets its contract: the square's bit is set in its row of each level up to the one given.
-use borrow.Author.Rules.{rules}
 use mathlib.Core.List.{List}
 use Prim.Native.Nat.{ℕ, ◌+◌}
 use native.Mathlib.Omega.{arith}
@@ -26,11 +25,11 @@ second s mask =
     quarter-next 1 s.args.y mask s.args.rows.now _ (omega arith) s.requires.1 s.requires.3 (first s mask)
 
 pub returns-then-level-lt1 : goal.returns-then-level-lt1
-returns-then-level-lt1 c =    let a = c.args in
+returns-then-level-lt1 c = let a = c.args in
     raised-none a.x a.y 1 a.level a.rows.now (omega arith) c.requires.3
 
 pub returns-then-level-lt2 : goal.returns-then-level-lt2
-returns-then-level-lt2 c =    let a = c.args in
+returns-then-level-lt2 c = let a = c.args in
     quarter-raised a.x a.y a.level c.span-mask.result a.rows.now _ 1 (omega arith) (omega arith)
     c.requires.3
     c.span-mask.type_inv
@@ -38,7 +37,7 @@ returns-then-level-lt2 c =    let a = c.args in
     (first (goal.at.returns-then-level-lt2 c).Start c.span-mask.result)
 
 pub returns-then-level-lt3 : goal.returns-then-level-lt3
-returns-then-level-lt3 c =    let a = c.args in
+returns-then-level-lt3 c = let a = c.args in
     quarter-raised a.x a.y a.level c.span-mask.result a.rows.now _ 2 (omega arith) (omega arith)
     c.requires.3
     c.span-mask.type_inv
@@ -46,7 +45,7 @@ returns-then-level-lt3 c =    let a = c.args in
     (second (goal.at.returns-then-level-lt3 c).Start c.span-mask.result)
 
 pub returns : goal.returns
-returns c =    let a = c.args in
+returns c = let a = c.args in
     quarter-raised a.x a.y a.level c.span-mask.result a.rows.now _ 3 (omega arith) (omega arith)
     c.requires.3
     c.span-mask.type_inv

@@ -1,8 +1,6 @@
-use mathlib.Core.Path.{◌≡◌, ◌∙◌}
 use Prim.Native.Nat.{◌≤◌, ◌-◌}
-use native.Mathlib.Omega.{arith}
 use Rattle.rows.specs.Rows.{Masked}
-use Rattle.rows.proofs.MaskLaws.{in_levels, no-levels, mask-none, mask-level, mask-raised}
+use Rattle.rows.proofs.MaskLaws.{in_levels}
 use Rattle.rows.proofs.raise_square.Given as goal
 
 abbrev pub invariant-loop-l : goal.invariant-loop-l

@@ -1,10 +1,5 @@
-use mathlib.Core.Path.{◌≡◌}
-use Prim.Native.Nat.{◌≤◌, ◌<◌, ◌+◌, ◌-◌}
-use native.Mathlib.Omega.{arith}
-use lib.ListN.{length}
+use Prim.Native.Nat.{◌≤◌, ◌-◌}
 use Rattle.rows.specs.Rows.{in_span, Masked}
-use Rattle.rows.proofs.Spans.{no_span, span-apart, span-or}
-use Rattle.rows.proofs.MaskLaws.{mask-none, mask_one, mask-join}
 use Rattle.rows.proofs.set_bits.Given as goal
 
 abbrev pub invariant-loop-i : goal.invariant-loop-i

@@ -1,5 +1,4 @@
 -- `span` meets its contract: 32 ones lose all but n, which then move up by x.
-use borrow.Author.Rules.{rules}
 use Rattle.rows.proofs.RowLaws.{span-bits}
 use Rattle.rows.proofs.span.Goals as goal
 

@@ -4,7 +4,6 @@ use mathlib.Core.List.{List}
 use native.Mathlib.Omega.{arith}
 use lib.Dec.{lit<}
 use lib.ListN.{get_or}
-use borrow.Author.Rules.{rules}
 use Rattle.saving.proofs.file_length.Goals as goal
 
 few : (n : List ℕ) → ((L : ℕ) → L < 4 → get_or n L 0 ≤ 4489)

@@ -4,7 +4,6 @@ use mathlib.Core.List.{List, [], ◌∷◌, ◌++◌}
 use Prim.Native.Nat.{ℕ, ◌+◌}
 use native.Mathlib.Omega.{arith}
 use lib.ListN.{length, get_or}
-use borrow.Author.Rules.{rules}
 use Rattle.finite.specs.Range.{joined}
 use Rattle.surface.specs.Table.{coefficients}
 use Rattle.surface.specs.Fields.{field_bytes}
@@ -36,44 +35,44 @@ size s =
     parts-size a.w a.h a.tree.now (levels_of a.rows.now) (coefficients a.w a.h a.numbers.now)
 
 pub put_sides-field-requires : goal.put_sides-field-requires
-put_sides-field-requires c =    let p = c.requires.0 in
+put_sides-field-requires c = let p = c.requires.0 in
     (p.small-W, p.small-H, omega (arith, c.requires.2, size (goal.at.put_sides-field-requires c).Start))
 
 pub put_field-end-requires : goal.put_field-end-requires
-put_field-end-requires c =    omega (arith, c.requires.2, size (goal.at.put_field-end-requires c).Start, c.put_sides-field.ensures.0, c.put_sides-field.auto.out)
+put_field-end-requires c = omega (arith, c.requires.2, size (goal.at.put_field-end-requires c).Start, c.put_sides-field.ensures.0, c.put_sides-field.auto.out)
 
 pub put_counts-from-requires : goal.put_counts-from-requires
-put_counts-from-requires c =    omega (
-      arith,
-      c.requires.2,
-      size (goal.at.put_counts-from-requires c).Start,
-      c.put_sides-field.ensures.0,
-      c.put_sides-field.auto.out,
-      c.put_field-end.ensures.0,
-      c.put_field-end.auto.out,
-    )
+put_counts-from-requires c = omega (
+  arith,
+  c.requires.2,
+  size (goal.at.put_counts-from-requires c).Start,
+  c.put_sides-field.ensures.0,
+  c.put_sides-field.auto.out,
+  c.put_field-end.ensures.0,
+  c.put_field-end.auto.out,
+)
 
 pub put_levels-requires : goal.put_levels-requires
-put_levels-requires c =    let p = c.requires.0 in (
-      p.small-W,
-      p.small-H,
-      p.nested,
-      p.size,
-      p.spelt,
-      c.requires.1,
-      omega (
-        arith,
-        c.requires.2,
-        size (goal.at.put_levels-requires c).Start,
-        c.put_sides-field.ensures.0,
-        c.put_sides-field.auto.out,
-        c.put_field-end.ensures.0,
-        c.put_field-end.auto.out,
-        c.put_counts-from.ensures.0,
-        c.put_counts-from.auto.out,
-        counts-length (λ L. get_or c.args.counts L 0),
-      ),
-    )
+put_levels-requires c = let p = c.requires.0 in (
+  p.small-W,
+  p.small-H,
+  p.nested,
+  p.size,
+  p.spelt,
+  c.requires.1,
+  omega (
+    arith,
+    c.requires.2,
+    size (goal.at.put_levels-requires c).Start,
+    c.put_sides-field.ensures.0,
+    c.put_sides-field.auto.out,
+    c.put_field-end.ensures.0,
+    c.put_field-end.auto.out,
+    c.put_counts-from.ensures.0,
+    c.put_counts-from.auto.out,
+    counts-length (λ L. get_or c.args.counts L 0),
+  ),
+)
 
 -- the fields of the sides and of the tree
 front : (c : After-put_field-end)
@@ -110,5 +109,5 @@ counted c =
 
 pub returns : goal.returns
 unfolding file_under
-returns c =    put_both _ (levels (goal.at.returns c).Start) 0 c.args.out.now c.put_counts-from.result c.put_counts-from.new.out
+returns c = put_both _ (levels (goal.at.returns c).Start) 0 c.args.out.now c.put_counts-from.result c.put_counts-from.new.out
     c.put_levels.result c.put_levels.new.out (counted (goal.at.returns c).After-put_counts-from) c.put_levels.ensures

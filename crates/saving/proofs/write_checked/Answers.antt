@@ -6,7 +6,6 @@ use Prim.Native.Nat.{ℕ, ◌+◌}
 use native.Mathlib.Omega.{arith}
 use lib.Dec.{lit<}
 use lib.ListN.{length, length-append}
-use borrow.Author.Rules.{rules}
 use borrow.Author.Tests.{not-false, lt-ltb, le-ltb}
 use Rattle.surface.specs.Table.{coefficients, cause, ◌or_else◌}
 use Rattle.surface.specs.Note.{Note, note_bytes, note_fits, lent_note}
@@ -33,7 +32,7 @@ abbrev begun : After-active_counts-counts → Start
 begun n = n.before.before.before.before.before.before.before
 
 pub returns-then-is_long : goal.returns-then-is_long
-returns-then-is_long c =    let long : not (note_fits (note (goal.at.returns-then-is_long c).Start)) ≡ true = sym c.is_long.ensures ∙ c.if-is_long.true in
+returns-then-is_long c = let long : not (note_fits (note (goal.at.returns-then-is_long c).Start)) ≡ true = sym c.is_long.ensures ∙ c.if-is_long.true in
     slice-refused
     (sym (ap (λ t. cause 14 t or_else file_out_cause (table (goal.at.returns-then-is_long c).Start ++ note_bytes (note (goal.at.returns-then-is_long c).Start)) c.args.out.now) long))
     (λ z. omega arith) _ _ _
@@ -62,13 +61,18 @@ together : (l : After-note_length)
     l.file_length.result + l.note_length.result ≡ length (table s ++ note_bytes (note s))
 together l =
     let s = l.before.before.before.before.before.before.before.before.before in
-    omega (arith, (let it : l.file_length.result ≡ length (table (l.before.before.before.before.before.before.before.before.before)) = let a = (l.before.before.before.before.before.before.before.before.before).args in
-    l.file_length.ensures
-    ∙ sym (file-size a.w a.h a.tree.now (levels_of a.rows.now)
-    (coefficients a.w a.h a.numbers.now) l.active_counts-counts.result l.active_counts-counts.ensures) in it), l.note_length.ensures.0, length-append (table s) (note_bytes (note s)))
+    omega (
+      arith,
+      (let it : l.file_length.result ≡ length (table (l.before.before.before.before.before.before.before.before.before)) = let a = (l.before.before.before.before.before.before.before.before.before).args in
+          l.file_length.ensures
+          ∙ sym (file-size a.w a.h a.tree.now (levels_of a.rows.now)
+          (coefficients a.w a.h a.numbers.now) l.active_counts-counts.result l.active_counts-counts.ensures) in it),
+      l.note_length.ensures.0,
+      length-append (table s) (note_bytes (note s)),
+    )
 
 pub overflow_add-length : goal.overflow_add-length
-overflow_add-length l =    let few = l.active_counts-counts.ensures in
+overflow_add-length l = let few = l.active_counts-counts.ensures in
     omega (
       arith,
       l.file_length.ensures,
@@ -85,21 +89,21 @@ past-note : (n : After-active_counts-counts) (k : ℕ) → cause 14 (not (note_f
 past-note n k = ap (λ t. cause 14 (not t) or_else k) (fits n)
 
 pub returns-then-out-length : goal.returns-then-out-length
-returns-then-out-length c =    let s = begun (goal.at.returns-then-out-length c).After-active_counts-counts in
+returns-then-out-length c = let s = begun (goal.at.returns-then-out-length c).After-active_counts-counts in
     let file = table s ++ note_bytes (note s) in
     let short = lt-ltb (length s.args.out.now) (length file) (omega (arith, c.if-out-length.true, together (goal.at.returns-then-out-length c).After-note_length)) in
     slice-refused (sym (past-note (goal.at.returns-then-out-length c).After-active_counts-counts (file_out_cause file s.args.out.now) ∙ ap (cause 18) short)) (λ z. omega arith)
     _ _ _
 
 pub put_file-end-requires : goal.put_file-end-requires
-put_file-end-requires c =    let s = begun (goal.at.put_file-end-requires c).After-active_counts-counts in (
-      s.requires,
-      c.active_counts-counts.ensures,
-      omega (arith, c.if-out-length.false, together (goal.at.put_file-end-requires c).After-note_length, length-append (table s) (note_bytes (note s))),
-    )
+put_file-end-requires c = let s = begun (goal.at.put_file-end-requires c).After-active_counts-counts in (
+  s.requires,
+  c.active_counts-counts.ensures,
+  omega (arith, c.if-out-length.false, together (goal.at.put_file-end-requires c).After-note_length, length-append (table s) (note_bytes (note s))),
+)
 
 pub put_note-requires : goal.put_note-requires
-put_note-requires c =    let s = begun (goal.at.put_note-requires c).After-active_counts-counts in
+put_note-requires c = let s = begun (goal.at.put_note-requires c).After-active_counts-counts in
     omega (
       arith,
       c.put_file-end.ensures.0,
@@ -110,7 +114,7 @@ put_note-requires c =    let s = begun (goal.at.put_note-requires c).After-activ
     )
 
 pub returns : goal.returns
-returns c =    let s = begun (goal.at.returns c).After-active_counts-counts in
+returns c = let s = begun (goal.at.returns c).After-active_counts-counts in
     let out = s.args.out.now in
     let file = table s ++ note_bytes (note s) in
     let enough = le-ltb (length out) (length file) (omega (arith, c.if-out-length.false, together (goal.at.returns c).After-note_length)) in

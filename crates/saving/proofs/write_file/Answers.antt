@@ -1,6 +1,5 @@
 -- `write_file` refuses with the table's cause, or leaves the rest to `write_checked`.
 use mathlib.Core.Path.{◌≡◌, sym, ◌∙◌, subst}
-use borrow.Author.Rules.{rules}
 use Rattle.surface.specs.Table.{table_cause}
 use Rattle.surface.specs.Calls.{SliceMeets}
 use Rattle.surface.specs.Note.{lent_note}
@@ -24,12 +23,12 @@ none : (c : Else-cause-ne0)
 none c = sym c.if-cause-ne0.false ∙ c.check-cause.ensures.0
 
 pub write_checked-requires : goal.write_checked-requires
-write_checked-requires c =    let a = c.args in
+write_checked-requires c = let a = c.args in
     checked a.w a.h a.tree.now a.numbers.now _
     (sound a.w a.h a.tree.now a.numbers.now (sym (none (goal.at.write_checked-requires c).Else-cause-ne0))) (c.check-cause.ensures.1 c.if-cause-ne0.false)
 
 pub returns : goal.returns
-returns c =    let a = c.args in
+returns c = let a = c.args in
     let s = sides (sound a.w a.h a.tree.now a.numbers.now (sym (none (goal.at.returns c).Else-cause-ne0))) in
     subst
     (λ o. SliceMeets o (length_answer c.write_checked.result)

@@ -37,16 +37,16 @@ pub returns-then-a-b-11 : goal.returns-then-a-b-11
 returns-then-a-b-11 c = simp (ne_eqb _ _ c.if-a-b-11.true, and-false)
 
 pub returns : goal.returns
-returns c =    rw (
-      eq-eqb _ _ c.if-a-b.false,
-      eq-eqb _ _ c.if-a-b-2.false,
-      eq-eqb _ _ c.if-a-b-3.false,
-      eq-eqb _ _ c.if-a-b-4.false,
-      eq-eqb _ _ c.if-a-b-5.false,
-      eq-eqb _ _ c.if-a-b-6.false,
-      eq-eqb _ _ c.if-a-b-7.false,
-      eq-eqb _ _ c.if-a-b-8.false,
-      eq-eqb _ _ c.if-a-b-9.false,
-      eq-eqb _ _ c.if-a-b-10.false,
-      eq-eqb _ _ c.if-a-b-11.false,
-    )
+returns c = rw (
+  eq-eqb _ _ c.if-a-b.false,
+  eq-eqb _ _ c.if-a-b-2.false,
+  eq-eqb _ _ c.if-a-b-3.false,
+  eq-eqb _ _ c.if-a-b-4.false,
+  eq-eqb _ _ c.if-a-b-5.false,
+  eq-eqb _ _ c.if-a-b-6.false,
+  eq-eqb _ _ c.if-a-b-7.false,
+  eq-eqb _ _ c.if-a-b-8.false,
+  eq-eqb _ _ c.if-a-b-9.false,
+  eq-eqb _ _ c.if-a-b-10.false,
+  eq-eqb _ _ c.if-a-b-11.false,
+)

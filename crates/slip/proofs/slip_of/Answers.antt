@@ -1,7 +1,6 @@
 -- `slip_of` tells of the new regions and their tree.
 use mathlib.Core.Path.{◌∙◌}
 use lib.Dec.{lit<}
-use borrow.Author.Rules.{rules}
 use Rattle.surface.specs.Table.{levels}
 use Rattle.surface.specs.Enquiry.{slip_of}
 use Rattle.surface.proofs.Least.{active_count-cong}
@@ -16,7 +15,7 @@ under-under-requires c = let p = c.requires in (p.0, p.1, p.3, p.5)
 
 pub returns : goal.returns
 unfolding slip_of
-returns c t e =    let a = c.args in
+returns c t e = let a = c.args in
     let counted = c.active_counts-counts.ensures in
     let same = active_count-cong a.w a.h (levels_of a.new.now) (levels a.tree.now) c.requires.4 in
     rw (

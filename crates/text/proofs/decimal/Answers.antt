@@ -3,7 +3,6 @@ use lib.ListN.{take}
 use Rattle.text.specs.Text.{decimal}
 use Rattle.fields.specs.Put.{Put}
 use Rattle.text.proofs.TextLaws.{fewest-decimal}
-use borrow.Author.Rules.{rules}
 use Rattle.text.proofs.decimal.Goals.{After-decimal-k}
 use Rattle.text.proofs.decimal.Goals as goal
 
@@ -17,5 +16,5 @@ pub put-requires : goal.put-requires
 put-requires c = rw (text (goal.at.put-requires c).After-decimal-k) c.requires
 
 pub returns : goal.returns
-returns c =    subst (λ l. Put l c.args.at c.args.out.now c.put.result c.put.new.out)
+returns c = subst (λ l. Put l c.args.at c.args.out.now c.put.result c.put.new.out)
     (text (goal.at.returns c).After-decimal-k) c.put.ensures

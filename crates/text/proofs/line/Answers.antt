@@ -9,7 +9,6 @@ use Rattle.text.specs.Text.{decimal, signed, space, newline}
 use Rattle.fields.specs.Put.{Put}
 use Rattle.fields.proofs.PutLaws.{put_both}
 use Rattle.text.proofs.TextLaws.{line-length, line-parts}
-use borrow.Author.Rules.{rules}
 use Rattle.text.proofs.line.Goals.{After-signed-c, Start}
 use Rattle.text.proofs.line.Goals as goal
 
@@ -39,10 +38,10 @@ pub spaced-a-requires : goal.spaced-a-requires
 spaced-a-requires c = omega (arith, room (goal.at.spaced-a-requires c).Start, numbers (goal.at.spaced-a-requires c).Start)
 
 pub spaced-b-requires : goal.spaced-b-requires
-spaced-b-requires c =    omega (arith, room (goal.at.spaced-b-requires c).Start, numbers (goal.at.spaced-b-requires c).Start, c.spaced-a.ensures.0, c.spaced-a.auto.out)
+spaced-b-requires c = omega (arith, room (goal.at.spaced-b-requires c).Start, numbers (goal.at.spaced-b-requires c).Start, c.spaced-a.ensures.0, c.spaced-a.auto.out)
 
 pub signed-c-requires : goal.signed-c-requires
-signed-c-requires c =    rw (to_z-of_z w64 c.args.watts c.ranges.watts)
+signed-c-requires c = rw (to_z-of_z w64 c.args.watts c.ranges.watts)
     (omega (
       arith,
       room (goal.at.signed-c-requires c).Start,
@@ -54,20 +53,20 @@ signed-c-requires c =    rw (to_z-of_z w64 c.args.watts c.ranges.watts)
     ))
 
 pub put_byte-requires : goal.put_byte-requires
-put_byte-requires c =    omega (
-      arith,
-      room (goal.at.put_byte-requires c).Start,
-      numbers (goal.at.put_byte-requires c).Start,
-      c.spaced-a.ensures.0,
-      c.spaced-a.auto.out,
-      c.spaced-b.ensures.0,
-      c.spaced-b.auto.out,
-      (signed-put (goal.at.put_byte-requires c).After-signed-c).0,
-      c.signed-c.auto.out,
-    )
+put_byte-requires c = omega (
+  arith,
+  room (goal.at.put_byte-requires c).Start,
+  numbers (goal.at.put_byte-requires c).Start,
+  c.spaced-a.ensures.0,
+  c.spaced-a.auto.out,
+  c.spaced-b.ensures.0,
+  c.spaced-b.auto.out,
+  (signed-put (goal.at.put_byte-requires c).After-signed-c).0,
+  c.signed-c.auto.out,
+)
 
 pub returns : goal.returns
-returns c =    let x = c.args in
+returns c = let x = c.args in
     let u = decimal x.u ++ space in
     let v = decimal x.v ++ space in
     let o = x.out.now in

@@ -8,12 +8,10 @@ use lib.ListN.{length}
 use lib.Signed.{mag}
 use mir.Syntax.{w64}
 use mir.Val.{to_z, of_z}
-use mir.ValLaws.{to_z-of_z}
 use Rattle.finite.proofs.Signed.{below, not-below, as_is, mirrored, mirrored-back, fits-pos, cast-up}
 use Rattle.text.specs.Text.{decimal, signed}
 use Rattle.fields.specs.Put.{Put}
 use Rattle.fields.proofs.PutLaws.{put_both}
-use borrow.Author.Rules.{rules}
 use Rattle.text.proofs.signed.Goals.{Else-n-lt0, Then-n-lt0}
 use Rattle.text.proofs.signed.Goals as goal
 
@@ -44,23 +42,23 @@ plain-text c =
     ap signed (not-below c.args.n c.ranges.n c.if-n-lt0.false) ∙ sym (ap (λ z. decimal (nat_abs z)) (plain c))
 
 pub put_byte-next-requires : goal.put_byte-next-requires
-put_byte-next-requires c =    omega (arith, ap length (below-text (goal.at.put_byte-next-requires c).Then-n-lt0), c.requires)
+put_byte-next-requires c = omega (arith, ap length (below-text (goal.at.put_byte-next-requires c).Then-n-lt0), c.requires)
 
 pub overflow_sub-n : goal.overflow_sub-n
-overflow_sub-n c =    fits-pos (turned (goal.at.overflow_sub-n c).Then-n-lt0) c.ranges.n.sfits
+overflow_sub-n c = fits-pos (turned (goal.at.overflow_sub-n c).Then-n-lt0) c.ranges.n.sfits
 
 pub overflow_cast-n : goal.overflow_cast-n
-overflow_cast-n c =    cast-up (turned-back (goal.at.overflow_cast-n c).Then-n-lt0) c.ranges.n.sfits
+overflow_cast-n c = cast-up (turned-back (goal.at.overflow_cast-n c).Then-n-lt0) c.ranges.n.sfits
 
 pub overflow_add-n : goal.overflow_add-n
-overflow_add-n c =    omega (arith, ap nat_abs (turned-back (goal.at.overflow_add-n c).Then-n-lt0), c.ranges.n.sfits)
+overflow_add-n c = omega (arith, ap nat_abs (turned-back (goal.at.overflow_add-n c).Then-n-lt0), c.ranges.n.sfits)
 
 pub decimal-requires : goal.decimal-requires
-decimal-requires c =    rw (number (goal.at.decimal-requires c).Then-n-lt0)
+decimal-requires c = rw (number (goal.at.decimal-requires c).Then-n-lt0)
     (omega (arith, c.put_byte-next.ensures.0, c.put_byte-next.auto.out, ap length (below-text (goal.at.decimal-requires c).Then-n-lt0), c.requires))
 
 pub returns-then-n-lt0 : goal.returns-then-n-lt0
-returns-then-n-lt0 c =    let a = c.args in
+returns-then-n-lt0 c = let a = c.args in
     let r = c.decimal.result in
     let o = c.decimal.new.out in
     let m = suc (mag a.n) in
@@ -77,4 +75,4 @@ pub decimal-requires-2 : goal.decimal-requires-2
 decimal-requires-2 c = rw (← plain-text (goal.at.decimal-requires-2 c).Else-n-lt0) c.requires
 
 pub returns : goal.returns
-returns c =    rw (plain-text (goal.at.returns c).Else-n-lt0) c.decimal-2.ensures
+returns c = rw (plain-text (goal.at.returns c).Else-n-lt0) c.decimal-2.ensures

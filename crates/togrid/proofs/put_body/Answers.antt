@@ -3,7 +3,6 @@ use mathlib.Core.Path.{◌≡◌, refl, ap, ◌∙◌, subst}
 use mathlib.Core.List.{List}
 use Prim.Native.Nat.{ℕ, ◌+◌, ◌-◌, ◌*◌, ◌≤◌}
 use native.Mathlib.Omega.{arith}
-use borrow.Author.Rules.{rules}
 use lib.ListN.{length}
 use Rattle.finite.specs.Range.{joined}
 use Rattle.surface.specs.Sheet.{functions}
@@ -19,7 +18,7 @@ abbrev texts : Start → ℕ → List ℕ
 texts s = let a = s.args in grid_row a.w a.h a.rows.now a.numbers.now
 
 pub loop-y-init : goal.loop-y-init
-loop-y-init c =    (omega arith, refl, put-none (texts (goal.at.loop-y-init c).Start) c.args.at c.args.out.now)
+loop-y-init c = (omega arith, refl, put-none (texts (goal.at.loop-y-init c).Start) c.args.at c.args.out.now)
 
 -- the rows that a strip adds to those before it are some of all
 fits : (s : Start) (m n to : ℕ) (out : List ℕ) → Put (joined m (texts s)) s.args.at
@@ -36,7 +35,7 @@ fits s m n to out put size h =
     )
 
 pub put_strip-to-requires : goal.put_strip-to-requires
-put_strip-to-requires c =    let loop = c.loop-y in
+put_strip-to-requires c = let loop = c.loop-y in
     let below = c.loop-y-test.true in (
       c.requires.0,
       omega (arith, below),
@@ -45,7 +44,7 @@ put_strip-to-requires c =    let loop = c.loop-y in
     )
 
 pub loop-y-preserved : goal.loop-y-preserved
-loop-y-preserved c =    let loop = c.loop-y in
+loop-y-preserved c = let loop = c.loop-y in
     let a = c.args in
     let after = c.put_strip-to.new.out in
     let next : 8 * loop.y + 8 ≡ 8 * (loop.y + 1) = omega arith in (
@@ -67,7 +66,7 @@ rest c =
     subst (λ y. Put (joined (8 * y) (texts c.before.before.before)) a.at a.out.now loop.to loop.out) all loop.invariant.2
 
 pub put_strip-requires : goal.put_strip-requires
-put_strip-requires c =    let loop = c.loop-y in
+put_strip-requires c = let loop = c.loop-y in
     let last = c.args.h - 1 in (
       c.requires.0,
       omega (arith, c.requires.1),
@@ -76,7 +75,7 @@ put_strip-requires c =    let loop = c.loop-y in
     )
 
 pub returns : goal.returns
-returns c =    let loop = c.loop-y in
+returns c = let loop = c.loop-y in
     let a = c.args in
     let last = a.h - 1 in
     let after = c.put_strip.new.out in
@@ -88,5 +87,4 @@ returns c =    let loop = c.loop-y in
 
 pub shape_of-out : goal.shape_of-out
 shape_of-out c =
-    
     c.put_strip.auto.out ∙ c.loop-y.invariant.1

@@ -1,15 +1,9 @@
-use mathlib.Core.Path.{◌≡◌, refl, ap, ◌∙◌, subst}
-use mathlib.Core.List.{List}
-use Prim.Native.Nat.{ℕ, ◌+◌, ◌-◌, ◌*◌, ◌≤◌}
-use native.Mathlib.Omega.{arith}
-use borrow.Author.Rules.{rules}
+use mathlib.Core.Path.{◌≡◌}
+use Prim.Native.Nat.{◌-◌, ◌*◌, ◌≤◌}
 use lib.ListN.{length}
 use Rattle.finite.specs.Range.{joined}
-use Rattle.surface.specs.Sheet.{functions}
 use Rattle.fields.specs.Put.{Put}
-use Rattle.fields.proofs.PutLaws.{put-none}
 use Rattle.togrid.specs.Strips.{grid_row}
-use Rattle.togrid.proofs.TextLaws.{joined-part, put-more, grid-bytes}
 use Rattle.togrid.proofs.put_body.Given as goal
 
 abbrev pub invariant-loop-y : goal.invariant-loop-y

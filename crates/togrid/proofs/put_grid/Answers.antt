@@ -1,6 +1,5 @@
 -- `put_grid` meets its contract: the field of the sides, then that of the numbers.
 use mathlib.Core.List.{[], ◌∷◌}
-use borrow.Author.Rules.{rules}
 use Rattle.surface.specs.Fields.{field_bytes}
 use Rattle.surface.specs.Grid.{grid_file}
 use Rattle.fields.proofs.PutLaws.{put_both, put-field}
@@ -9,7 +8,7 @@ use Rattle.togrid.proofs.put_grid.Goals as goal
 
 pub returns : goal.returns
 unfolding grid_file
-returns c =    let a = c.args in
+returns c = let a = c.args in
     let numbers = numbers_bytes (grid_by a.w a.h a.rows.now a.numbers.now) in
     let front = c.put_sides-field.new.out in
     let after = c.put_body.new.out in

@@ -4,7 +4,6 @@ use mathlib.Core.List.{List}
 use Prim.Native.Nat.{ℕ, ◌+◌, ◌*◌}
 use native.Mathlib.Omega.{arith}
 use lib.ListN.{length}
-use borrow.Author.Rules.{rules}
 use borrow.Author.Tests.{lt-ltb, le-ltb}
 use Rattle.surface.specs.Table.{cause, table_cause}
 use Rattle.surface.specs.Grid.{grid_file, grid_of, write_grid_cause, write_grid_outcome}
@@ -50,11 +49,11 @@ found c =
 
 pub returns-then-grid_out-length : goal.returns-then-grid_out-length
 unfolding write_grid_outcome write_grid_cause
-returns-then-grid_out-length c =    let short = lt-ltb (length c.args.grid_out.now) (length (file (goal.at.returns-then-grid_out-length c).Start)) (omega (arith, c.if-grid_out-length.true, found (goal.at.returns-then-grid_out-length c).After-places-size)) in
+returns-then-grid_out-length c = let short = lt-ltb (length c.args.grid_out.now) (length (file (goal.at.returns-then-grid_out-length c).Start)) (omega (arith, c.if-grid_out-length.true, found (goal.at.returns-then-grid_out-length c).After-places-size)) in
     slice-refused (past (none (goal.at.returns-then-grid_out-length c).Else-cause-ne0) (sym (ap (cause 18) short))) (λ z. omega arith) _ _ _
 
 pub put_grid-requires : goal.put_grid-requires
-put_grid-requires c =    let check = c.check-cause in
+put_grid-requires c = let check = c.check-cause in
     let a = c.args in
     let g = good (goal.at.put_grid-requires c).Else-cause-ne0 in
     let rows = check.new.rows in (
@@ -68,7 +67,7 @@ put_grid-requires c =    let check = c.check-cause in
 
 pub returns : goal.returns
 unfolding write_grid_outcome write_grid_cause
-returns c =    let check = c.check-cause in
+returns c = let check = c.check-cause in
     let a = c.args in
     let g = sides (good (goal.at.returns c).Else-cause-ne0) in
     let out = a.grid_out.now in

@@ -2,7 +2,6 @@
 use mathlib.Core.Path.{◌≡◌, sym, ap, ap₂, subst, ◌∙◌}
 use Prim.Native.Nat.{◌≤◌}
 use native.Mathlib.Omega.{arith}
-use borrow.Author.Rules.{rules}
 use borrow.Author.Tests.{ltb-false}
 use lib.Dec.{ltb, lit<}
 use lib.IntN.{nat_abs}
@@ -50,7 +49,7 @@ good c =
     (two.0, ltb-false 32000 (nat_abs a.watts) (cause-off 22 (ltb 32000 (nat_abs a.watts)) two.1))
 
 pub place_after-at-requires : goal.place_after-at-requires
-place_after-at-requires c =    let z = sound _ _ (good c).0 in
+place_after-at-requires c = let z = sound _ _ (good c).0 in
     (z.most, omega (arith, z.some, z.oldest), omega (arith, z.held))
 
 -- the record as the machine has it
@@ -59,14 +58,14 @@ read_back : (c : Else-cause-ne0)
 read_back c = to_z-of_z w64 c.args.watts c.ranges.watts
 
 pub overflow_cast-window : goal.overflow_cast-window
-overflow_cast-window c =    subst (SFits w32) (sym (read_back (goal.at.overflow_cast-window c).Else-cause-ne0)) (abs-fits c.args.watts (good (goal.at.overflow_cast-window c).Else-cause-ne0).1 (lit< tt))
+overflow_cast-window c = subst (SFits w32) (sym (read_back (goal.at.overflow_cast-window c).Else-cause-ne0)) (abs-fits c.args.watts (good (goal.at.overflow_cast-window c).Else-cause-ne0).1 (lit< tt))
 
 pub new_state-requires : goal.new_state-requires
 new_state-requires c = (good (goal.at.new_state-requires c).Else-cause-ne0).0
 
 pub returns : goal.returns
 unfolding record_outcome
-returns c =    let a = c.args in
+returns c = let a = c.args in
     slice-done (none (goal.at.returns c).Else-cause-ne0) c.new_state.ensures
     (ap₂ (set a.window.now) c.place_after-at.ensures.0
     (to_z-of_z w32 (to_z w64 (of_z w64 a.watts)) (overflow_cast-window (goal.at.returns c).After-place_after-at) ∙ read_back (goal.at.returns c).Else-cause-ne0))

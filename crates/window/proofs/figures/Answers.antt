@@ -2,7 +2,6 @@
 use mathlib.Core.Path.{◌≡◌, refl, sym, ◌∙◌}
 use Prim.Native.Nat.{ℕ, zero, suc, ◌<◌}
 use native.Mathlib.Nat.{zero-lt-suc}
-use borrow.Author.Rules.{rules}
 use lib.ListN.{length}
 use Rattle.surface.specs.Window.{window_cause, figures_outcome}
 use Rattle.answers.specs.Answers.{state_told}
@@ -27,17 +26,17 @@ none c = sym c.if-cause-ne0.false ∙ c.window_cause-cause.ensures
 
 pub returns-then-held-eq0 : goal.returns-then-held-eq0
 unfolding figures_outcome
-returns-then-held-eq0 c =    let a = c.args in
+returns-then-held-eq0 c = let a = c.args in
     gives-with (none (goal.at.returns-then-held-eq0 c).Else-cause-ne0) (none-held a.window.now (state_told a.state) c.if-held-eq0.true)
 
 pub of_held-f-requires : goal.of_held-f-requires
-of_held-f-requires c =    let a = c.args in
+of_held-f-requires c = let a = c.args in
     let z = sound (length a.window.now) (state_told a.state) (sym (none (goal.at.of_held-f-requires c).Else-cause-ne0)) in
     let some : 0 < a.state.held = positive a.state.held c.if-held-eq0.false in
     (z.most, z.held, z.oldest, some)
 
 pub returns : goal.returns
 unfolding figures_outcome
-returns c =    let fits = c.struct_told-1.given in
+returns c = let fits = c.struct_told-1.given in
     gives-with (none (goal.at.returns c).Else-cause-ne0)
     (read_back fits.0.1 fits.1.0.1 fits.1.1.0.1 ∙ sym c.of_held-f.ensures)

@@ -3,7 +3,7 @@ use mathlib.Core.List.{List}
 use Prim.Native.Nat.{ℕ, ◌+◌, ◌-◌, ◌*◌, ◌^◌, ◌≤◌, ◌<◌}
 use native.Mathlib.Nat.{le_trans}
 use native.Mathlib.Omega.{arith}
-use borrow.Author.Rules.{rules, sfits_of}
+use borrow.Author.Rules.{sfits_of}
 use lib.IntN.{ℤ, pos, nat_abs}
 use lib.Dec.{lit≤}
 use lib.Signed.{mag}
@@ -36,13 +36,13 @@ small : (x : ℤ) → mag x < 2 ^ 31 → nat_abs (widened x) ≤ 1441 * 21474836
 small x h = le_trans (wide-size x h) (lit≤ tt)
 
 pub over-requires : goal.over-requires
-over-requires c =    let a = c.args in (
-      short (a.oldest + a.held - (a.oldest + 1)) (a.oldest + 1) a.window.now c.requires.0,
-      small (oldest (goal.at.over-requires c).Start) c.first-1.given,
-    )
+over-requires c = let a = c.args in (
+  short (a.oldest + a.held - (a.oldest + 1)) (a.oldest + 1) a.window.now c.requires.0,
+  small (oldest (goal.at.over-requires c).Start) c.first-1.given,
+)
 
 pub returns-then-end-places : goal.returns-then-end-places
-returns-then-end-places c =    let over = c.over.ensures in
+returns-then-end-places c = let over = c.over.ensures in
     told-straight c.args.window.now c.args.oldest c.args.held (good (goal.at.returns-then-end-places c).Start) c.requires.3
     c.first-1.given c.if-end-places.true over.0 over.1 over.2
 
@@ -55,10 +55,10 @@ later-short s =
     short (length a.window.now - (a.oldest + 1)) (a.oldest + 1) a.window.now s.requires.0
 
 pub over-later-requires : goal.over-later-requires
-over-later-requires c =    (later-short (goal.at.over-later-requires c).Start, small (oldest (goal.at.over-later-requires c).Start) c.first-1.given)
+over-later-requires c = (later-short (goal.at.over-later-requires c).Start, small (oldest (goal.at.over-later-requires c).Start) c.first-1.given)
 
 pub over-requires-2 : goal.over-requires-2
-over-requires-2 c =    let a = c.args in
+over-requires-2 c = let a = c.args in
     let t = c.over-later.result.total in (
       short (a.oldest + a.held - length a.window.now - 0) 0 a.window.now c.requires.0,
       rw (to_z-of_z w64 t (sfits_of c.struct_told-3-1.given.0.1))
@@ -66,7 +66,7 @@ over-requires-2 c =    let a = c.args in
     )
 
 pub returns : goal.returns
-returns c =    let a = c.args in
+returns c = let a = c.args in
     let fits = c.struct_told-3-1.given in
     let later = c.over-later.ensures in
     let early = c.over-2.ensures in

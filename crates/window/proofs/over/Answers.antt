@@ -1,6 +1,6 @@
 -- `over` meets its contract: after i turns the first i records of the part are taken in.
 use mathlib.Core.Path.{◌≡◌, refl, ap, ◌∙◌}
-use Prim.Native.Nat.{◌+◌, ◌-◌, ◌*◌, ◌^◌, ◌≤◌, ◌<◌}
+use Prim.Native.Nat.{◌+◌, ◌*◌, ◌^◌, ◌≤◌, ◌<◌}
 use native.Mathlib.Nat.{lt_of_le_of_lt}
 use native.Mathlib.Omega.{arith}
 use borrow.Author.Rules.{sfits_of}
@@ -35,11 +35,11 @@ pub overflow_cast-total : goal.overflow_cast-total
 overflow_cast-total c = wide_fits (read c) c.x-1.given
 
 pub overflow_add-total : goal.overflow_add-total
-overflow_add-total c =    sum_fits (read c) c.x-1.given (to_z w64 c.loop-i.total-bits) c.loop-i.invariant.4
+overflow_add-total c = sum_fits (read c) c.x-1.given (to_z w64 c.loop-i.total-bits) c.loop-i.invariant.4
     (room c)
 
 pub loop-i-preserved : goal.loop-i-preserved
-loop-i-preserved c =    let loop = c.loop-i in
+loop-i-preserved c = let loop = c.loop-i in
     let part = c.args.part.now in
     let sum = to_z w64 loop.total-bits in
     let inside = c.loop-i-test.true in (
@@ -58,7 +58,7 @@ loop-i-preserved c =    let loop = c.loop-i in
     )
 
 pub returns : goal.returns
-returns c =    let loop = c.loop-i in
+returns c = let loop = c.loop-i in
     let part = c.args.part.now in
     let all : loop.i ≡ length part = omega arith in (
       fold_end ◌+ℤ◌ (to_z w64 loop.total-bits) _ part loop.i all loop.invariant.1

@@ -1,7 +1,6 @@
 -- Each way out of `record_cause` gives 22, then 23, or finds no cause.
 use mathlib.Core.Path.{◌≡◌, refl, sym, ap, ◌∙◌}
 use native.Mathlib.Omega.{arith}
-use borrow.Author.Rules.{rules}
 use lib.Dec.{ltb}
 use lib.IntN.{nat_abs}
 use mir.Syntax.{w64}
@@ -20,11 +19,11 @@ size c =
     c.past.ensures 32000 refl ∙ ap (λ z. ltb 32000 (nat_abs z)) (to_z-of_z w64 c.args.watts c.ranges.watts)
 
 pub returns-then-past : goal.returns-then-past
-returns-then-past c =    past (sym c.if-cause-ne0.false ∙ c.window_cause-cause.ensures)
+returns-then-past c = past (sym c.if-cause-ne0.false ∙ c.window_cause-cause.ensures)
     (ap (cause 23) (sym c.if-past.true ∙ size (goal.at.returns-then-past c).After-past))
 
 pub returns : goal.returns
-returns c =    past (sym c.if-cause-ne0.false ∙ c.window_cause-cause.ensures)
+returns c = past (sym c.if-cause-ne0.false ∙ c.window_cause-cause.ensures)
     (ap (cause 23) (sym c.if-past.false ∙ size (goal.at.returns c).After-past))
 
 pub past-requires : goal.past-requires

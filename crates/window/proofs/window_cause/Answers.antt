@@ -6,19 +6,19 @@ use Rattle.records.proofs.Places.{no-cause, unsound}
 use Rattle.window.proofs.window_cause.Goals as goal
 
 pub returns-then-places-lt1 : goal.returns-then-places-lt1
-returns-then-places-lt1 c =    let a = c.args in
+returns-then-places-lt1 c = let a = c.args in
     unsound a.places (state_told a.state) λ z. omega (arith, z.some, c.if-places-lt1.true)
 
 pub returns-then-places-gt1440 : goal.returns-then-places-gt1440
-returns-then-places-gt1440 c =    let a = c.args in
+returns-then-places-gt1440 c = let a = c.args in
     unsound a.places (state_told a.state) λ z. omega (arith, z.most, c.if-places-gt1440.true)
 
 pub returns-then-places-state : goal.returns-then-places-state
-returns-then-places-state c =    let a = c.args in
+returns-then-places-state c = let a = c.args in
     unsound a.places (state_told a.state) λ z. omega (arith, z.held, c.if-places-state.true)
 
 pub returns-then-state-places : goal.returns-then-state-places
-returns-then-state-places c =    let a = c.args in
+returns-then-state-places c = let a = c.args in
     sym
     (no-cause a.places (state_told a.state)
     (record {
@@ -29,5 +29,5 @@ returns-then-state-places c =    let a = c.args in
     }))
 
 pub returns-else-state-places : goal.returns-else-state-places
-returns-else-state-places c =    let a = c.args in
+returns-else-state-places c = let a = c.args in
     unsound a.places (state_told a.state) λ z. omega (arith, z.oldest, c.if-state-places.false)

@@ -1,10 +1,8 @@
 -- `active_count` meets its contract: before each turn the active functions of the rows below b are counted.
 use mathlib.Core.Path.{◌≡◌, ◌∙◌}
-use Prim.Native.Nat.{◌-◌, ◌*◌, ◌≤◌}
+use Prim.Native.Nat.{◌≤◌}
 use native.Mathlib.Omega.{arith}
-use borrow.Author.Rules.{rules}
-use Rattle.finite.specs.Range.{count, total}
-use Rattle.surface.specs.Support.{active_in_row}
+use Rattle.finite.specs.Range.{count}
 use Rattle.rows.specs.Rows.{levels_of}
 use Rattle.activity.specs.Marks.{marked}
 use Rattle.finite.proofs.Tests.{total-none, total-more, count-le}
@@ -14,7 +12,7 @@ use Rattle.activity.proofs.count.active_count.Goals.{After-count_row-found}
 use Rattle.activity.proofs.count.active_count.Goals as goal
 
 pub front-first-requires : goal.front-first-requires
-front-first-requires c =    let args = c.args in
+front-first-requires c = let args = c.args in
     let pre = c.requires in
     let columns = c.functions-n in
     let side = c.eighths-e in (
@@ -29,7 +27,7 @@ pub loop-b-init : goal.loop-b-init
 loop-b-init c = (omega arith, omega arith, total-none _)
 
 pub active_row-marks-requires : goal.active_row-marks-requires
-active_row-marks-requires c =    let pre = c.requires in
+active_row-marks-requires c = let pre = c.requires in
     (pre.0, pre.1, pre.2, omega (arith, c.functions-m.ensures.0, c.loop-b-test.true), pre.3)
 
 -- the count of a turn's row
@@ -48,7 +46,7 @@ few c =
     omega (arith, row-found c, count-le c.functions-n.result p, c.functions-n.ensures.1)
 
 pub loop-b-preserved : goal.loop-b-preserved
-loop-b-preserved c =    let marks = c.active_row-marks in
+loop-b-preserved c = let marks = c.active_row-marks in
     let loop = c.loop-b in
     let side = c.eighths-e in
     let args = c.args in (
@@ -62,7 +60,7 @@ loop-b-preserved c =    let marks = c.active_row-marks in
     )
 
 pub returns : goal.returns
-returns c =    let loop = c.loop-b in
+returns c = let loop = c.loop-b in
     let args = c.args in
     let all : loop.b ≡ c.functions-m.result = omega arith in (
       count-whole args.w args.h args.level loop.b _ (levels_of args.rows.now)

@@ -1,14 +1,8 @@
-use mathlib.Core.Path.{◌≡◌, ◌∙◌}
+use mathlib.Core.Path.{◌≡◌}
 use Prim.Native.Nat.{◌-◌, ◌*◌, ◌≤◌}
-use native.Mathlib.Omega.{arith}
-use borrow.Author.Rules.{rules}
-use Rattle.finite.specs.Range.{count, total}
+use Rattle.finite.specs.Range.{total}
 use Rattle.surface.specs.Support.{active_in_row}
 use Rattle.rows.specs.Rows.{levels_of}
-use Rattle.activity.specs.Marks.{marked}
-use Rattle.finite.proofs.Tests.{total-none, total-more, count-le}
-use Rattle.activity.proofs.CountLaws.{row_count, count-whole}
-use Rattle.activity.proofs.WindowLaws.{eighths-le, eighths-some, row-size}
 use Rattle.activity.proofs.count.active_count.Given as goal
 
 abbrev pub invariant-loop-b : goal.invariant-loop-b

@@ -1,7 +1,6 @@
 -- `active_counts` meets its contract, level by level.
 use Prim.Native.Nat.{zero, suc}
 use native.Mathlib.Omega.{arith}
-use borrow.Author.Rules.{rules}
 use Rattle.activity.proofs.count.active_counts.Goals as goal
 
 pub returns : goal.returns

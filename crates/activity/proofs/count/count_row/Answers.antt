@@ -19,7 +19,7 @@ few c =
     )
 
 pub returns : goal.returns
-returns c n e h first =    let args = c.args in
+returns c n e h first = let args = c.args in
     front-count e n args.marks args.first h first
 
 pub overflow_add-result : goal.overflow_add-result

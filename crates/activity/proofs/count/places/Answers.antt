@@ -2,7 +2,6 @@
 use mathlib.Core.Path.{◌≡◌, ap₂, ◌∙◌}
 use Prim.Native.Nat.{◌-◌, ◌*◌, ◌/◌, ◌%◌, ◌^◌, ◌≤◌}
 use native.Mathlib.Omega.{arith}
-use borrow.Author.Rules.{rules}
 use lib.Pow.{pow_pos, pow_mono}
 use Rattle.activity.proofs.CountLaws.{one_shl, spread-is}
 use Rattle.activity.proofs.count.places.Goals.{Start}
@@ -18,7 +17,7 @@ some : (c : Start) → 2 ≤ 2 ^ c.args.e
 some c = pow_mono {i = 1} {j = c.args.e} c.requires.0
 
 pub returns : goal.returns
-returns c =    ap₂ (λ x y. (x - 1) / (y - 1)) (reach c) (side c) ∙ spread-is c.args.e c.args.n c.requires.0
+returns c = ap₂ (λ x y. (x - 1) / (y - 1)) (reach c) (side c) ∙ spread-is c.args.e c.args.n c.requires.0
 
 pub overflow_sub-result : goal.overflow_sub-result
 overflow_sub-result c =

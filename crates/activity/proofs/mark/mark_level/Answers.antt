@@ -3,23 +3,22 @@ use mathlib.Core.Path.{◌≡◌, sym, ap, ap₂, ◌∙◌}
 use Prim.Native.Nat.{ℕ, ◌≤◌, ◌+◌, ◌-◌, ◌*◌}
 use native.Mathlib.Nat.{mul_comm, suc-mul, mul-le-mul_right}
 use native.Mathlib.Omega.{arith}
-use borrow.Author.Rules.{rules}
 use lib.ListN.{length, take, drop}
 use Rattle.finite.specs.Range.{table_from}
 use Rattle.activity.specs.Mark.{row_marks, active_mark}
 use Rattle.activity.proofs.ActiveLaws.{row-marks}
 use Rattle.activity.proofs.WindowLaws.{eighths-le}
-use Rattle.finite.proofs.Written.{rows_written, rows_none, rows_next, rows_all}
+use Rattle.finite.proofs.Written.{rows_none, rows_next, rows_all}
 use Rattle.activity.proofs.mark.mark_level.Goals.{In-loop-b}
 use Rattle.activity.proofs.mark.mark_level.Goals as goal
 
 pub loop-b-init : goal.loop-b-init
-loop-b-init c =    let args = c.args in
+loop-b-init c = let args = c.args in
     let mark = active_mark args.w args.h args.level args.rows.now in
     (omega arith, c.requires.5, rows_none args.n mark args.out.now)
 
 pub active_row-marks-requires : goal.active_row-marks-requires
-active_row-marks-requires c =    (c.requires.0, c.requires.1, c.requires.2, omega (arith, c.requires.4, c.loop-b-test.true), c.requires.6)
+active_row-marks-requires c = (c.requires.0, c.requires.1, c.requires.2, omega (arith, c.requires.4, c.loop-b-test.true), c.requires.6)
 
 count : (at n : ℕ) → at + n - at ≡ n
 count at n = omega arith
@@ -34,10 +33,10 @@ row_fits c =
     omega (arith, mul-le-mul_right args.n c.loop-b-test.true, suc-mul b args.n, mul_comm args.n args.m)
 
 pub mark_row-requires : goal.mark_row-requires
-mark_row-requires c =    omega (arith, c.eighths-e.ensures, eighths-le c.args.level)
+mark_row-requires c = omega (arith, c.eighths-e.ensures, eighths-le c.args.level)
 
 pub loop-b-preserved : goal.loop-b-preserved
-loop-b-preserved c =    let side = c.eighths-e in
+loop-b-preserved c = let side = c.eighths-e in
     let args = c.args in
     let inv = c.loop-b.invariant in
     let out = c.loop-b.out in
@@ -59,7 +58,7 @@ loop-b-preserved c =    let side = c.eighths-e in
     )
 
 pub returns : goal.returns
-returns c =    let loop = c.loop-b in
+returns c = let loop = c.loop-b in
     let args = c.args in
     let mark = active_mark args.w args.h args.level args.rows.now in
     rows_all loop.b mark args.out.now loop.invariant.2 loop.invariant.0 c.loop-b-test.false c.requires.3

@@ -1,14 +1,8 @@
-use mathlib.Core.Path.{◌≡◌, sym, ap, ap₂, ◌∙◌}
-use Prim.Native.Nat.{ℕ, ◌≤◌, ◌+◌, ◌-◌, ◌*◌}
-use native.Mathlib.Nat.{mul_comm, suc-mul, mul-le-mul_right}
-use native.Mathlib.Omega.{arith}
-use borrow.Author.Rules.{rules}
-use lib.ListN.{length, take, drop}
-use Rattle.finite.specs.Range.{table_from}
-use Rattle.activity.specs.Mark.{row_marks, active_mark}
-use Rattle.activity.proofs.ActiveLaws.{row-marks}
-use Rattle.activity.proofs.WindowLaws.{eighths-le}
-use Rattle.finite.proofs.Written.{rows_written, rows_none, rows_next, rows_all}
+use mathlib.Core.Path.{◌≡◌}
+use Prim.Native.Nat.{◌≤◌, ◌-◌, ◌*◌}
+use lib.ListN.{length}
+use Rattle.activity.specs.Mark.{active_mark}
+use Rattle.finite.proofs.Written.{rows_written}
 use Rattle.activity.proofs.mark.mark_level.Given as goal
 
 abbrev pub invariant-loop-b : goal.invariant-loop-b

@@ -1,11 +1,11 @@
 -- `mark_row` meets its contract: before each turn the marks of the places below a are written.
 use mathlib.Core.Path.{◌≡◌, refl, ap, ◌∙◌}
-use Prim.Native.Nat.{◌≤◌, ◌-◌, ◌%◌}
+use Prim.Native.Nat.{◌%◌}
 use native.Mathlib.Omega.{arith}
 use lib.ListN.{length, set, length-set}
-use Rattle.activity.specs.Marks.{mark_at, From}
+use Rattle.activity.specs.Marks.{mark_at}
 use Rattle.activity.specs.Mark.{row_marks}
-use Rattle.finite.proofs.Written.{written, written_none, written-more, written_all}
+use Rattle.finite.proofs.Written.{written_none, written-more, written_all}
 use Rattle.activity.proofs.StepLaws.{from-none, from_next, from-here}
 use Rattle.activity.proofs.mark.mark_row.Goals as goal
 
@@ -13,7 +13,7 @@ pub loop-a-init : goal.loop-a-init
 loop-a-init c = (omega arith, refl, from-none _ _, written_none _ _)
 
 pub loop-a-preserved : goal.loop-a-preserved
-loop-a-preserved c =    let loop = c.loop-a in
+loop-a-preserved c = let loop = c.loop-a in
     let args = c.args in
     let marks = mark_at args.e args.marks in (
       omega arith,
@@ -25,7 +25,7 @@ loop-a-preserved c =    let loop = c.loop-a in
     )
 
 pub returns : goal.returns
-returns c =    let loop = c.loop-a in
+returns c = let loop = c.loop-a in
     let args = c.args in
     let all : loop.a ≡ length args.row.now = omega arith in
     loop.invariant.3

@@ -1,11 +1,8 @@
-use mathlib.Core.Path.{◌≡◌, refl, ap, ◌∙◌}
-use Prim.Native.Nat.{◌≤◌, ◌-◌, ◌%◌}
-use native.Mathlib.Omega.{arith}
-use lib.ListN.{length, set, length-set}
+use mathlib.Core.Path.{◌≡◌}
+use Prim.Native.Nat.{◌≤◌, ◌-◌}
+use lib.ListN.{length}
 use Rattle.activity.specs.Marks.{mark_at, From}
-use Rattle.activity.specs.Mark.{row_marks}
-use Rattle.finite.proofs.Written.{written, written_none, written-more, written_all}
-use Rattle.activity.proofs.StepLaws.{from-none, from_next, from-here}
+use Rattle.finite.proofs.Written.{written}
 use Rattle.activity.proofs.mark.mark_row.Given as goal
 
 abbrev pub invariant-loop-a : goal.invariant-loop-a

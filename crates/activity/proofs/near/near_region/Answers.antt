@@ -8,7 +8,6 @@ use Rattle.rows.specs.Rows.{levels_of}
 use Rattle.activity.proofs.ActiveLaws.{index-fits}
 use Rattle.activity.proofs.NearLaws.{near-columns}
 use Rattle.activity.proofs.WindowLaws.{functions-le, eighths-le, eighths-some, row-size}
-use borrow.Author.Rules.{rules}
 use lib.Dec.{lit<}
 use mir.Syntax.{w64}
 use mir.Val.{Fits}
@@ -42,11 +41,11 @@ asks c k hk =
     )
 
 pub column-requires : goal.column-requires
-column-requires c =    let a = c.args.a in
+column-requires c = let a = c.args.a in
     rw (add-zero a) at (asks (goal.at.column-requires c).After-eighths-e 0 (lit< tt))
 
 pub returns : goal.returns
-returns c =    let side = c.eighths-e in
+returns c = let side = c.eighths-e in
     let g = c.args in
     let lev = levels_of g.rows.now in
     near-columns g.w g.h g.level g.a g.b lev side.result side.ensures c.requires.4

@@ -1,9 +1,9 @@
 -- Before each turn the quarter squares met so far are all above the level.
 use mathlib.Core.Bool.{true≢false, false≢true}
-use Prim.Native.Nat.{◌+◌, ◌-◌, ◌*◌, ◌/◌, ◌%◌, ◌≤◌}
+use Prim.Native.Nat.{◌+◌, ◌*◌, ◌/◌, ◌%◌, ◌≤◌}
 use native.Mathlib.Omega.{arith}
 use Rattle.rows.specs.Rows.{levels_of}
-use Rattle.coarsening.proofs.FindLaws.{In, Above, side-small, in_cell, none_above, one-more}
+use Rattle.coarsening.proofs.FindLaws.{In, side-small, in_cell, none_above, one-more}
 use Rattle.coarsening.proofs.find.find.Goals.{After-side_at-side, In-loop-i}
 use Rattle.coarsening.proofs.find.find.Goals as goal
 
@@ -24,22 +24,22 @@ inside c =
     c.requires.1 c.requires.2 c.loop-i-test.true
 
 pub returns-then-level_at-most : goal.returns-then-level_at-most
-returns-then-level_at-most c =    let w = inside (goal.at.returns-then-level_at-most c).In-loop-i in (
-      λ _. (w.0.0, w.1.0, omega (arith, c.level_at.ensures, c.if-level_at-most.true)),
-      λ e. absurd (true≢false e),
-    )
+returns-then-level_at-most c = let w = inside (goal.at.returns-then-level_at-most c).In-loop-i in (
+  λ _. (w.0.0, w.1.0, omega (arith, c.level_at.ensures, c.if-level_at-most.true)),
+  λ e. absurd (true≢false e),
+)
 
 pub loop-i-preserved : goal.loop-i-preserved
-loop-i-preserved c =    let a = c.args in
+loop-i-preserved c = let a = c.args in
     one-more a.level c.side_at-side.result a.x a.y c.loop-i.i (levels_of a.rows.now)
     c.loop-i.invariant (omega (arith, c.level_at.ensures, c.if-level_at-most.false))
 
 pub returns : goal.returns
-returns c =    let a = c.args in (
-      λ e. absurd (false≢true e),
-      λ _. none_above a.level c.side_at-side.result a.x a.y c.loop-i.i (levels_of a.rows.now)
-          c.requires.0 c.side_at-side.ensures (omega arith) c.loop-i.invariant,
-    )
+returns c = let a = c.args in (
+  λ e. absurd (false≢true e),
+  λ _. none_above a.level c.side_at-side.result a.x a.y c.loop-i.i (levels_of a.rows.now)
+      c.requires.0 c.side_at-side.ensures (omega arith) c.loop-i.invariant,
+)
 
 pub overflow_mul-side : goal.overflow_mul-side
 overflow_mul-side c =

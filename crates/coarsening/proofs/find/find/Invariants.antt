@@ -1,8 +1,6 @@
-use mathlib.Core.Bool.{true≢false, false≢true}
-use Prim.Native.Nat.{◌+◌, ◌-◌, ◌*◌, ◌/◌, ◌%◌, ◌≤◌}
-use native.Mathlib.Omega.{arith}
+use Prim.Native.Nat.{◌-◌, ◌*◌}
 use Rattle.rows.specs.Rows.{levels_of}
-use Rattle.coarsening.proofs.FindLaws.{In, Above, side-small, in_cell, none_above, one-more}
+use Rattle.coarsening.proofs.FindLaws.{Above}
 use Rattle.coarsening.proofs.find.find.Given as goal
 
 abbrev pub invariant-loop-i : goal.invariant-loop-i

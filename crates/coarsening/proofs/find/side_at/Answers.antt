@@ -1,5 +1,4 @@
 -- By the level.
-use borrow.Author.Rules.{rules}
 use Rattle.coarsening.proofs.FindLaws.{side-past}
 use Rattle.coarsening.proofs.find.side_at.Goals as goal
 

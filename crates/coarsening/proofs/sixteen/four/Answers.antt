@@ -2,7 +2,7 @@
 use mathlib.Core.Path.{◌≡◌, ◌∙◌}
 use Prim.Native.Nat.{ℕ, ◌+◌, ◌*◌, ◌≤◌}
 use native.Mathlib.Omega.{arith}
-use borrow.Author.Rules.{rules, sfits_of}
+use borrow.Author.Rules.{sfits_of}
 use lib.IntN.{pos}
 use lib.ListN.{length}
 use mir.Syntax.{w64}
@@ -20,7 +20,7 @@ slice-long : (c : Else-level-eq2) → let a = c.args in a.at + 4 ≤ length a.fi
 slice-long c = c.requires.0.1 c.if-level-eq2.false
 
 pub returns-then-level-eq2 : goal.returns-then-level-eq2
-returns-then-level-eq2 c =    let a = c.args in
+returns-then-level-eq2 c = let a = c.args in
     let at : (from k : ℕ) → from ≡ a.at + k → _ = λ from k e.
     in_body a.level a.body.now a.fine.now from (a.at + k) c.if-level-eq2.true e in
     at-four (λ k z. z ≡ number_of a.level a.body.now a.fine.now (a.at + k)) (pos 0)
@@ -30,7 +30,7 @@ returns-then-level-eq2 c =    let a = c.args in
     (to_z-of_z w64 _ (sfits_of c.read-then-level-eq2-3.type_inv) ∙ c.read-then-level-eq2-3.ensures ∙ at (a.at + 3) 3 (omega arith))
 
 pub returns : goal.returns
-returns c =    let a = c.args in
+returns c = let a = c.args in
     let at : (from k : ℕ) → from ≡ a.at + k → _ = λ from k e.
     in-slice a.level a.body.now a.fine.now from (a.at + k) c.if-level-eq2.false e in
     at-four (λ k z. z ≡ number_of a.level a.body.now a.fine.now (a.at + k)) (pos 0)

@@ -1,6 +1,6 @@
 -- The numbers are put one after the other.
 use native.Mathlib.Omega.{arith}
-use borrow.Author.Rules.{rules, sfits_of}
+use borrow.Author.Rules.{sfits_of}
 use lib.ListN.{length-set}
 use mir.Syntax.{w64}
 use mir.ValLaws.{to_z-of_z}
@@ -17,6 +17,6 @@ pub bounds-s-at-4 : goal.bounds-s-at-4
 bounds-s-at-4 c = simp length-set (omega arith)
 
 pub returns : goal.returns
-returns c =    four-put c.args.at c.args.row c.args.s.now c.requires (to_z-of_z w64 _ (sfits_of c.s-1.given))
+returns c = four-put c.args.at c.args.row c.args.s.now c.requires (to_z-of_z w64 _ (sfits_of c.s-1.given))
     (to_z-of_z w64 _ (sfits_of c.s-2-1.given)) (to_z-of_z w64 _ (sfits_of c.s-3-1.given))
     (to_z-of_z w64 _ (sfits_of c.s-4-1.given))

@@ -2,7 +2,7 @@
 use mathlib.Core.Bool.{Bool}
 use mathlib.Core.Path.{◌≡◌, ap, ◌∙◌}
 use Prim.Native.Nat.{ℕ, ◌<◌}
-use borrow.Author.Rules.{rules, sfits_of}
+use borrow.Author.Rules.{sfits_of}
 use lib.Dec.{lit<, ltb}
 use lib.IntN.{ℤ, pos, nat_abs}
 use lib.ListN.{get_or}
@@ -57,19 +57,19 @@ pub past-requires-4 : goal.past-requires-4
 past-requires-4 c = held (goal.at.past-requires-4 c).Start
 
 pub returns-then-past : goal.returns-then-past
-returns-then-past c m e =    let row = c.args.row in
+returns-then-past c m e = let row = c.args.row in
     row-past m 0 row (lit< tt) (past-limit m (get_or row 0 (pos 0)) (one (goal.at.returns-then-past c).After-past m e) c.if-past.true)
 
 pub returns-then-past-2 : goal.returns-then-past-2
-returns-then-past-2 c m e =    let row = c.args.row in
+returns-then-past-2 c m e = let row = c.args.row in
     row-past m 1 row (lit< tt) (past-limit m (get_or row 1 (pos 0)) (two (goal.at.returns-then-past-2 c).After-past-2 m e) c.if-past-2.true)
 
 pub returns-then-past-3 : goal.returns-then-past-3
-returns-then-past-3 c m e =    let row = c.args.row in
+returns-then-past-3 c m e = let row = c.args.row in
     row-past m 2 row (lit< tt) (past-limit m (get_or row 2 (pos 0)) (three (goal.at.returns-then-past-3 c).After-past-3 m e) c.if-past-3.true)
 
 pub returns : goal.returns
-returns c m e =    let row = c.args.row in
+returns c m e = let row = c.args.row in
     row_last m row c.past-4.result (in-limit m (get_or row 0 (pos 0)) (one (goal.at.returns c).After-past m e) c.if-past.false)
     (in-limit m (get_or row 1 (pos 0)) (two (goal.at.returns c).After-past-2 m e) c.if-past-2.false)
     (in-limit m (get_or row 2 (pos 0)) (three (goal.at.returns c).After-past-3 m e) c.if-past-3.false) (four c m e)

@@ -4,13 +4,12 @@ use mathlib.Core.List.{[], ◌∷◌}
 use Rattle.surface.specs.Fields.{byte_of, complement}
 use Rattle.fields.specs.Put.{Put}
 use Rattle.fields.proofs.PutLaws.{put_both, put_lowest}
-use borrow.Author.Rules.{rules}
 use mir.Syntax.{w64}
 use mir.ValLaws.{to_z-of_z}
 use Rattle.fields.proofs.number.put.Goals as goal
 
 pub returns : goal.returns
-returns c =    let a = c.args in
+returns c = let a = c.args in
     let o = a.out.now in
     let n = c.spelled-n.result in
     let e = c.spelled-n.ensures.0 ∙ ap complement (to_z-of_z w64 a.number c.ranges.number) in

@@ -7,5 +7,5 @@ pub overflow_sub-result : goal.overflow_sub-result
 overflow_sub-result c = search (rules, less-fits)
 
 pub returns : goal.returns
-returns c =    let a = c.args in
+returns c = let a = c.args in
     number a.body.now a.k c.unsigned_at-n.result c.unsigned_at-n.ensures.0 c.unsigned_at-n.ensures.1

@@ -20,7 +20,7 @@ small : (c : Then-number-lt0) → suc (mag c.args.number) < 549755813888
 small c = subst (λ z. nat_abs z < 549755813888) (negative c) c.requires
 
 pub overflow_sub-size : goal.overflow_sub-size
-overflow_sub-size c =    fits-pos (mirrored c.args.number c.ranges.number c.if-number-lt0.true) (omega (arith, small c))
+overflow_sub-size c = fits-pos (mirrored c.args.number c.ranges.number c.if-number-lt0.true) (omega (arith, small c))
 
 back : (c : Then-number-lt0)
     → let n = c.args.number in to_z w64 (of_z w64 (negsuc 0 -ℤ to_z w64 (of_z w64 n))) ≡ pos (mag n)

@@ -1,10 +1,8 @@
-use mathlib.Core.Path.{◌≡◌, sym, ◌∙◌}
+use mathlib.Core.Path.{◌≡◌}
 use mathlib.Core.Bool.{true}
 use Prim.Native.Nat.{◌≤◌, ◌-◌}
-use native.Mathlib.Omega.{arith}
-use borrow.Author.Tests.{not-true, not-false}
 use Rattle.finite.specs.Range.{every}
-use Rattle.fields.proofs.NumberLaws.{kept, within_none, within_more, within_all, within-lost}
+use Rattle.fields.proofs.NumberLaws.{kept}
 use Rattle.fields.proofs.number.within.Given as goal
 
 abbrev pub invariant-loop-k : goal.invariant-loop-k

@@ -4,7 +4,6 @@ use mathlib.Core.Bool.{Bool, true, false, not}
 use Prim.Native.Nat.{◌≤◌}
 use native.Mathlib.Omega.{arith}
 use borrow.Author.Rules.{rules}
-use borrow.Author.Tests.{not-true, not-false}
 use lib.ListN.{length, drop}
 use Rattle.surface.specs.Table.{cause}
 use Rattle.surface.specs.Fields.{unless, holds}
@@ -18,7 +17,7 @@ pub enum_told-1 : goal.enum_told-1
 enum_told-1 c = search rules
 
 pub returns-in_default : goal.returns-in_default
-returns-in_default c =    let a = c.args in
+returns-in_default c = let a = c.args in
     sides-faulty a.file.now c.field_at-sides.result c.field_at-sides.ensures.0 c.in_default.field-0
     c.in_default.is
 
@@ -52,11 +51,11 @@ pub returns-then-not-good_sides : goal.returns-then-not-good_sides
 returns-then-not-good_sides c = sides-bad _ (told (goal.at.returns-then-not-good_sides c).After-good_sides false c.if-not-good_sides.true)
 
 pub numbers_judge-requires : goal.numbers_judge-requires
-numbers_judge-requires c =    let file = c.args.file.now in
+numbers_judge-requires c = let file = c.args.file.now in
     let small = good-sides file (sym c.good_sides.ensures ∙ c.if-not-good_sides.false) in
     (small.0.1, small.1.1, size (goal.at.numbers_judge-requires c).In-Body)
 
 pub returns : goal.returns
-returns c =    let good = c.if-not-good_sides.false in
+returns c = let good = c.if-not-good_sides.false in
     grid-told c.args.file.now
     (sym c.good_sides.ensures ∙ good) (told (goal.at.returns c).After-good_sides true good) c.numbers_judge.result c.numbers_judge.ensures

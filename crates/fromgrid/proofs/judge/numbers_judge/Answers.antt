@@ -3,7 +3,6 @@ use mathlib.Core.Path.{◌≡◌, sym, ◌∙◌}
 use Prim.Native.Nat.{◌+◌, ◌*◌, ◌≤◌}
 use native.Mathlib.Omega.{arith}
 use borrow.Author.Rules.{rules}
-use borrow.Author.Tests.{not-true, not-false}
 use lib.ListN.{length}
 use Rattle.fields.specs.Positions.{body_at}
 use Rattle.fromgrid.proofs.JudgeLaws.{numbers-faulty, numbers-past, numbers_more, numbers-whole, size}
@@ -14,7 +13,7 @@ pub enum_told-1 : goal.enum_told-1
 enum_told-1 c = search rules
 
 pub returns-in_default : goal.returns-in_default
-returns-in_default c =    let a = c.args in
+returns-in_default c = let a = c.args in
     numbers-faulty a.file.now a.w a.h c.field_at-f.result c.places-count.result c.places-count.ensures.0
     c.field_at-f.ensures.0 c.in_default.field-0 c.in_default.is
 
@@ -43,19 +42,19 @@ pub within-requires : goal.within-requires
 within-requires c = (omega (arith, (whole (goal.at.within-requires c).In-Body).2), omega arith)
 
 pub returns-then-not-within : goal.returns-then-not-within
-returns-then-not-within c =    let a = c.args in
+returns-then-not-within c = let a = c.args in
     numbers-past a.file.now a.w a.h c.field_at-f.result c.places-count.result c.places-count.ensures.0
     c.field_at-f.ensures.0 c.in-Body.end c.in-Body.is
     (sym c.if-not-within.true ∙ c.within.ensures)
 
 pub returns-then-end-file : goal.returns-then-end-file
-returns-then-end-file c =    let a = c.args in
+returns-then-end-file c = let a = c.args in
     numbers_more a.file.now a.w a.h c.field_at-f.result c.places-count.result c.places-count.ensures.0
     c.field_at-f.ensures.0 c.in-Body.end c.in-Body.is
     (sym c.if-not-within.false ∙ c.within.ensures) c.if-end-file.true
 
 pub returns : goal.returns
-returns c =    let a = c.args in
+returns c = let a = c.args in
     numbers-whole a.file.now a.w a.h c.field_at-f.result c.places-count.result c.places-count.ensures.0
     c.field_at-f.ensures.0 c.in-Body.end c.in-Body.is c.field_at-f.ensures.1
     (sym c.if-not-within.false ∙ c.within.ensures) c.if-end-file.false

@@ -1,11 +1,9 @@
 -- `read_row` meets its contract: before each turn the places below k have their numbers.
-use mathlib.Core.Logic.{⊎_elim}
-use mathlib.Core.Path.{◌≡◌, refl, ap, ◌∙◌}
-use Prim.Native.Nat.{ℕ, ◌+◌, ◌-◌, ◌*◌, ◌≤◌, ◌<◌}
+use mathlib.Core.Path.{◌≡◌, refl, ◌∙◌}
+use Prim.Native.Nat.{◌+◌, ◌*◌, ◌≤◌, ◌<◌}
 use native.Mathlib.Omega.{arith}
 use borrow.Author.Rules.{sfits_of}
-use lib.IntN.{pos}
-use lib.ListN.{length, get_or, length-set}
+use lib.ListN.{length, length-set}
 use mir.Syntax.{w64}
 use mir.Val.{to_z}
 use mir.ValLaws.{to_z-of_z}
@@ -56,12 +54,15 @@ new : (c : Joined-level-eq2)
 new c =
     let a = c.args in
     let p = a.from + c.loop-k.k in
-    elim c.if-level-eq2.branch [ then-level-eq2 w ↦ w.row-is ∙ to_z-of_z w64 _ (sfits_of w.read.type_inv) ∙ w.read.ensures
-    ∙ in_body a.level a.body.now a.fine.now p p w.if-level-eq2.true refl | else-level-eq2 w ↦ w.row-is ∙ to_z-of_z w64 _ (sfits_of w.row-1.given)
-    ∙ in-slice a.level a.body.now a.fine.now p p w.if-level-eq2.false refl ]
+    elim c.if-level-eq2.branch [
+      | then-level-eq2 w ↦ w.row-is ∙ to_z-of_z w64 _ (sfits_of w.read.type_inv) ∙ w.read.ensures
+          ∙ in_body a.level a.body.now a.fine.now p p w.if-level-eq2.true refl
+      | else-level-eq2 w ↦ w.row-is ∙ to_z-of_z w64 _ (sfits_of w.row-1.given)
+          ∙ in-slice a.level a.body.now a.fine.now p p w.if-level-eq2.false refl
+    ]
 
 pub loop-k-preserved : goal.loop-k-preserved
-loop-k-preserved c =    let loop = c.loop-k in
+loop-k-preserved c = let loop = c.loop-k in
     let a = c.args in (
       omega (arith, c.loop-k-test.true),
       length-set loop.row loop.k (to_z w64 c.if-level-eq2.row-bits) ∙ loop.invariant.1,

@@ -1,16 +1,8 @@
-use mathlib.Core.Logic.{⊎_elim}
-use mathlib.Core.Path.{◌≡◌, refl, ap, ◌∙◌}
-use Prim.Native.Nat.{ℕ, ◌+◌, ◌-◌, ◌*◌, ◌≤◌, ◌<◌}
-use native.Mathlib.Omega.{arith}
-use borrow.Author.Rules.{sfits_of}
+use mathlib.Core.Path.{◌≡◌}
+use Prim.Native.Nat.{ℕ, ◌+◌, ◌-◌, ◌≤◌, ◌<◌}
 use lib.IntN.{pos}
-use lib.ListN.{length, get_or, length-set}
-use mir.Syntax.{w64}
-use mir.Val.{to_z}
-use mir.ValLaws.{to_z-of_z}
+use lib.ListN.{length, get_or}
 use Rattle.coarsening.specs.Coarser.{number_of}
-use Rattle.coarsening.proofs.SixteenLaws.{in_body, in-slice}
-use Rattle.fromgrid.proofs.NumberLaws.{set_more}
 use Rattle.fromgrid.proofs.numbers.read_row.Given as goal
 
 abbrev pub invariant-loop-k : goal.invariant-loop-k

@@ -1,7 +1,6 @@
 -- `same` meets its contract: before each turn the numbers below k are the same.
 use mathlib.Core.Path.{◌≡◌, ap}
 use mathlib.Core.Bool.{true≢false, false≢true}
-use Prim.Native.Nat.{ℕ, ◌≤◌, ◌<◌, ◌-◌}
 use native.Mathlib.Omega.{arith}
 use borrow.Author.Count.{below_more}
 use borrow.Author.Rules.{sfits_of}
@@ -26,7 +25,7 @@ returns-then-a-k c = (
 )
 
 pub loop-k-preserved : goal.loop-k-preserved
-loop-k-preserved c =    let args = c.args in
+loop-k-preserved c = let args = c.args in
     let k = c.loop-k.k in (
       omega arith,
       below_more (λ i. get_or args.a.now i (pos 0) ≡ get_or args.b.now i (pos 0)) k c.loop-k.invariant.1

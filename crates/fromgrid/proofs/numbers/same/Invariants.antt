@@ -1,14 +1,7 @@
-use mathlib.Core.Path.{◌≡◌, ap}
-use mathlib.Core.Bool.{true≢false, false≢true}
+use mathlib.Core.Path.{◌≡◌}
 use Prim.Native.Nat.{ℕ, ◌≤◌, ◌<◌, ◌-◌}
-use native.Mathlib.Omega.{arith}
-use borrow.Author.Count.{below_more}
-use borrow.Author.Rules.{sfits_of}
 use lib.IntN.{pos}
 use lib.ListN.{get_or}
-use mir.Syntax.{w64}
-use mir.Val.{of_z}
-use Rattle.fromgrid.proofs.NumberLaws.{same_of}
 use Rattle.fromgrid.proofs.numbers.same.Given as goal
 
 abbrev pub invariant-loop-k : goal.invariant-loop-k

@@ -7,7 +7,7 @@ use borrow.Author.Rules.{rules}
 use lib.IntN.{ℤ, pos}
 use lib.ListN.{length, get_or}
 use Rattle.surface.specs.Fields.{number_at}
-use Rattle.surface.specs.Table.{places, start, slots}
+use Rattle.surface.specs.Table.{start, slots}
 use Rattle.fromgrid.specs.Converts.{number_in}
 use Rattle.fromgrid.proofs.NumberLaws.{mid-length, put_in, part-ends, Filled, fill_none, fill-next, all-cleared}
 use Rattle.fromgrid.proofs.numbers.write_table.Statement.{statement}

@@ -3,25 +3,22 @@ use mathlib.Core.Path.{◌≡◌, sym, ap, ◌∙◌, subst}
 use Prim.Native.Nat.{◌+◌, ◌-◌, ◌*◌, ◌≤◌, ◌<◌}
 use native.Mathlib.Nat.{le-add_right}
 use native.Mathlib.Omega.{arith}
-use borrow.Author.Rules.{rules}
 use lib.IntN.{pos}
 use lib.ListN.{length, replicate}
 use Rattle.finite.specs.Range.{table_from}
 use Rattle.surface.specs.Sheet.{functions}
 use Rattle.surface.specs.Support.{active_count}
-use Rattle.surface.specs.Table.{places}
 use Rattle.surface.specs.TableFile.{loaded}
 use Rattle.coefficients.proofs.Parts.{row_small, row_fits, part_length}
 use Rattle.rows.specs.Rows.{levels_of}
 use Rattle.finite.proofs.Tests.{total-none}
-use Rattle.finite.proofs.Written.{rows_written, rows_none, rows_next, rows_all}
-use Rattle.loading.specs.Levels.{rows_before}
+use Rattle.finite.proofs.Written.{rows_none, rows_next, rows_all}
 use Rattle.loading.proofs.LevelLaws.{rows-within, none-loaded}
 use Rattle.loading.proofs.load.load_level.Goals.{In-loop-b}
 use Rattle.loading.proofs.load.load_level.Goals as goal
 
 pub returns-then-body-eq0 : goal.returns-then-body-eq0
-returns-then-body-eq0 c =    let a = c.args in
+returns-then-body-eq0 c = let a = c.args in
     let none : active_count a.w a.h (levels_of a.rows.now) a.level ≡ 0 =
     omega (arith, c.if-body-eq0.true, c.requires.5) in
     c.fill.ensures
@@ -29,7 +26,7 @@ returns-then-body-eq0 c =    let a = c.args in
     ∙ sym (none-loaded a.w a.h a.level (levels_of a.rows.now) a.body.now none)
 
 pub loop-b-init : goal.loop-b-init
-loop-b-init c =    let a = c.args in
+loop-b-init c = let a = c.args in
     let f = loaded a.w a.h (levels_of a.rows.now) a.level a.body.now in
     (omega arith, c.requires.4, total-none _, rows_none c.functions-n.result f a.part.now)
 
@@ -50,11 +47,11 @@ pub overflow_add-to : goal.overflow_add-to
 overflow_add-to c = omega (arith, inside c)
 
 pub offset_bounds-part-from : goal.offset_bounds-part-from
-offset_bounds-part-from c =    omega (
-      arith,
-      (row_small c.loop-b.b c.functions-m.result c.functions-n.result
-          c.loop-b-test.true c.functions-m.ensures.1 c.functions-n.ensures.1).0,
-    )
+offset_bounds-part-from c = omega (
+  arith,
+  (row_small c.loop-b.b c.functions-m.result c.functions-n.result
+      c.loop-b-test.true c.functions-m.ensures.1 c.functions-n.ensures.1).0,
+)
 
 pub slice_bounds-load_row-count : goal.slice_bounds-load_row-count
 slice_bounds-load_row-count c = le-add_right _ _
@@ -66,7 +63,7 @@ pub slice_bounds-load_row-end : goal.slice_bounds-load_row-end
 slice_bounds-load_row-end c = inside c
 
 pub load_row-next-requires : goal.load_row-next-requires
-load_row-next-requires c =    let loop = c.loop-b in
+load_row-next-requires c = let loop = c.loop-b in
     let a = c.args in
     let n = c.functions-n.result in
     let within : loop.b < functions a.h a.level =
@@ -82,7 +79,7 @@ load_row-next-requires c =    let loop = c.loop-b in
     )
 
 pub loop-b-preserved : goal.loop-b-preserved
-loop-b-preserved c =    let loop = c.loop-b in
+loop-b-preserved c = let loop = c.loop-b in
     let a = c.args in
     let n = c.functions-n.result in
     let f = loaded a.w a.h (levels_of a.rows.now) a.level a.body.now in
@@ -98,7 +95,7 @@ pub shape_of-part : goal.shape_of-part
 shape_of-part c = c.loop-b.invariant.1 ∙ sym c.requires.4
 
 pub returns : goal.returns
-returns c =    let loop = c.loop-b in
+returns c = let loop = c.loop-b in
     let a = c.args in
     rows_all loop.b (loaded a.w a.h (levels_of a.rows.now) a.level a.body.now) a.part.now
     loop.invariant.3 loop.invariant.0 c.loop-b-test.false c.functions-n.ensures.0 c.functions-m.ensures.0

@@ -1,12 +1,10 @@
 -- Before each turn the levels below are loaded, and the fields of the others stand from there on.
 use mathlib.Core.Path.{◌≡◌, refl, sym, ap, ◌∙◌, subst}
-use mathlib.Core.List.{List, [], ◌++◌}
-use Prim.Native.Nat.{ℕ, ◌+◌, ◌-◌, ◌≤◌}
+use mathlib.Core.List.{[]}
+use Prim.Native.Nat.{ℕ, ◌+◌, ◌≤◌}
 use native.Mathlib.Nat.{le-add_right}
 use native.Mathlib.Omega.{arith}
-use lib.IntN.{ℤ}
 use lib.ListN.{length, drop}
-use Rattle.surface.specs.Table.{start, slots}
 use Rattle.surface.specs.Fields.{holds, length_at}
 use Rattle.surface.specs.TableFile.{level_fields}
 use Rattle.surface.proofs.FileRefusals.{levels-size}
@@ -18,7 +16,7 @@ use Rattle.loading.proofs.load.load_levels.Goals.{After-length_at, After-places,
 use Rattle.loading.proofs.load.load_levels.Goals as goal
 
 pub loop-level-init : goal.loop-level-init
-loop-level-init c =    let a = c.args in
+loop-level-init c = let a = c.args in
     (omega arith, c.requires.3, ([], levels-none a.w a.h _ _, below_none a.w a.h a.numbers.now))
 
 -- the field of a turn's level stands there
@@ -69,11 +67,11 @@ pub overflow_add-end : goal.overflow_add-end
 overflow_add-end c = omega (arith, inside c)
 
 pub start-first-requires : goal.start-first-requires
-start-first-requires c =    let p = c.requires in
+start-first-requires c = let p = c.requires in
     (p.0, p.1, omega (arith, c.loop-level-test.true))
 
 pub places-requires : goal.places-requires
-places-requires c =    let p = c.requires in
+places-requires c = let p = c.requires in
     (p.0, p.1, omega (arith, c.loop-level-test.true))
 
 pub overflow_add-last : goal.overflow_add-last
@@ -101,18 +99,18 @@ pub slice_bounds-load_level-end-in-loop-level : goal.slice_bounds-load_level-end
 slice_bounds-load_level-end-in-loop-level c = level-part (goal.at.slice_bounds-load_level-end-in-loop-level c).After-places
 
 pub load_level-requires : goal.load_level-requires
-load_level-requires c =    let p = c.requires in (
-      p.0,
-      p.1,
-      omega (arith, c.loop-level-test.true),
-      p.2,
-      part_length c.start-first.result c.places.result c.loop-level.numbers (level-part (goal.at.load_level-requires c).After-places)
-          ∙ c.places.ensures.0,
-      (there (goal.at.load_level-requires c).In-loop-level c.length_at.result c.length_at.ensures.0).size,
-    )
+load_level-requires c = let p = c.requires in (
+  p.0,
+  p.1,
+  omega (arith, c.loop-level-test.true),
+  p.2,
+  part_length c.start-first.result c.places.result c.loop-level.numbers (level-part (goal.at.load_level-requires c).After-places)
+      ∙ c.places.ensures.0,
+  (there (goal.at.load_level-requires c).In-loop-level c.length_at.result c.length_at.ensures.0).size,
+)
 
 pub loop-level-preserved : goal.loop-level-preserved
-loop-level-preserved c =    let loop = c.loop-level in
+loop-level-preserved c = let loop = c.loop-level in
     let a = c.args in
     let lev = levels_of a.rows.now in
     let field = there (goal.at.loop-level-preserved c).In-loop-level c.length_at.result c.length_at.ensures.0 in
@@ -134,7 +132,7 @@ pub shape_of-numbers : goal.shape_of-numbers
 shape_of-numbers c = c.loop-level.invariant.1 ∙ sym c.requires.3
 
 pub returns : goal.returns
-returns c =    let loop = c.loop-level in
+returns c = let loop = c.loop-level in
     let a = c.args in
     let rest = drop loop.at a.file.now in
     let all : loop.level ≡ 4 = omega arith in

@@ -1,18 +1,12 @@
-use mathlib.Core.Path.{◌≡◌, refl, sym, ap, ◌∙◌, subst}
-use mathlib.Core.List.{List, [], ◌++◌}
-use Prim.Native.Nat.{ℕ, ◌+◌, ◌-◌, ◌≤◌}
-use native.Mathlib.Nat.{le-add_right}
-use native.Mathlib.Omega.{arith}
+use mathlib.Core.Path.{◌≡◌}
+use mathlib.Core.List.{List, ◌++◌}
+use Prim.Native.Nat.{◌-◌, ◌≤◌}
 use lib.IntN.{ℤ}
 use lib.ListN.{length, drop}
 use Rattle.surface.specs.Table.{start, slots}
-use Rattle.surface.specs.Fields.{holds, length_at}
+use Rattle.surface.specs.Fields.{holds}
 use Rattle.surface.specs.TableFile.{level_fields}
-use Rattle.surface.proofs.FileRefusals.{levels-size}
-use Rattle.coefficients.proofs.Parts.{level-fits, part_length}
 use Rattle.rows.specs.Rows.{levels_of}
-use Rattle.judging.proofs.JudgeLaws.{levels-none, levels-next}
-use Rattle.loading.proofs.FileLaws.{level-due, LevelThere, level-there, below_none, below_next, below_all}
 use Rattle.loading.proofs.load.load_levels.Given as goal
 
 abbrev pub invariant-loop-level : goal.invariant-loop-level

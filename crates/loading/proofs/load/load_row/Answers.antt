@@ -1,10 +1,9 @@
 -- Before each turn the places below a are loaded.
 use mathlib.Core.Path.{◌≡◌, refl, sym, ap, ◌∙◌}
 use mathlib.Core.Bool.{Bool}
-use mathlib.Core.Logic.{⊎_elim}
-use Prim.Native.Nat.{ℕ, ◌+◌, ◌-◌, ◌*◌, ◌≤◌}
+use Prim.Native.Nat.{ℕ, ◌+◌, ◌*◌, ◌≤◌}
 use native.Mathlib.Omega.{arith}
-use borrow.Author.Rules.{rules, sfits_of}
+use borrow.Author.Rules.{sfits_of}
 use lib.IntN.{ℤ}
 use lib.ListN.{length, length-set}
 use mir.Syntax.{w64}
@@ -19,7 +18,7 @@ use Rattle.rows.specs.Rows.{levels_of}
 use Rattle.activity.specs.Marks.{marked}
 use Rattle.activity.proofs.ActiveLaws.{index-fits}
 use Rattle.finite.proofs.Tests.{count_none, count-one, count_same}
-use Rattle.finite.proofs.Written.{written, written_none, written-more, written_all}
+use Rattle.finite.proofs.Written.{written_none, written-more, written_all}
 use Rattle.activity.proofs.WindowLaws.{row-size, eighths-le, eighths-some}
 use Rattle.loading.proofs.LevelLaws.{before-next, place-number}
 use Rattle.loading.proofs.load.load_row.Goals.{After-is_marked, Start, Then-is_marked, else-is_marked, then-is_marked}
@@ -33,10 +32,10 @@ abbrev at_place : Start → ℕ → ℤ
 at_place s c = let a = s.args in loaded a.w a.h (levels_of a.rows.now) a.level a.body.now c a.b
 
 pub loop-a-init : goal.loop-a-init
-loop-a-init c =    (omega arith, refl, omega (arith, count_none (on (goal.at.loop-a-init c).Start)), written_none (at_place (goal.at.loop-a-init c).Start) c.args.row.now)
+loop-a-init c = (omega arith, refl, omega (arith, count_none (on (goal.at.loop-a-init c).Start)), written_none (at_place (goal.at.loop-a-init c).Start) c.args.row.now)
 
 pub is_marked-requires : goal.is_marked-requires
-is_marked-requires c =    let side = c.eighths-e in
+is_marked-requires c = let side = c.eighths-e in
     let a = c.args in (
       index-fits (length a.row.now) c.loop-a.a side.result
           (row-size a.w a.level _ _ c.requires.0 c.requires.2 c.requires.5 side.ensures)
@@ -74,7 +73,7 @@ pub overflow_add-at : goal.overflow_add-at
 overflow_add-at c = omega (arith, left (goal.at.overflow_add-at c).Then-is_marked)
 
 pub loop-a-preserved : goal.loop-a-preserved
-loop-a-preserved c =    let loop = c.loop-a in
+loop-a-preserved c = let loop = c.loop-a in
     let inv = loop.invariant in
     let a = c.args in
     let tested = told (goal.at.loop-a-preserved c).After-is_marked in
@@ -82,10 +81,10 @@ loop-a-preserved c =    let loop = c.loop-a in
     inv.2
     ∙ sym (place-number a.w a.h a.level a.b (levels_of a.rows.now) loop.a a.next c.requires.6) in
     let value : to_z w64 c.if-is_marked.c-bits ≡ at_place (goal.at.loop-a-preserved c).Start loop.a =
-    elim c.if-is_marked.branch [ 
-      then-is_marked w ↦ w.c-is
-        ∙ to_z-of_z w64 w.read-c.result (sfits_of w.read-c.type_inv)
-        ∙ rw (sym tested ∙ w.if-is_marked.true) (w.read-c.ensures ∙ ap (number_at a.body.now) number)
+    elim c.if-is_marked.branch [
+      | then-is_marked w ↦ w.c-is
+          ∙ to_z-of_z w64 w.read-c.result (sfits_of w.read-c.type_inv)
+          ∙ rw (sym tested ∙ w.if-is_marked.true) (w.read-c.ensures ∙ ap (number_at a.body.now) number)
       | else-is_marked w ↦ rw (sym tested ∙ w.if-is_marked.false) w.c-is
     ] in (
       omega arith,
@@ -99,7 +98,7 @@ pub shape_of-row : goal.shape_of-row
 shape_of-row c = c.loop-a.invariant.1
 
 pub returns : goal.returns
-returns c =    let a = c.args in
+returns c = let a = c.args in
     let all : c.loop-a.a ≡ length a.row.now = omega arith in (
       c.loop-a.invariant.3
           ∙ written_all c.loop-a.a (at_place (goal.at.returns c).Start) a.row.now all

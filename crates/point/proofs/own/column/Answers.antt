@@ -6,12 +6,12 @@ use lib.IntN.{ℤ, pos}
 use lib.ListN.{get_or}
 use mir.Syntax.{w64}
 use mir.ValLaws.{to_z-of_z}
-use borrow.Author.Rules.{rules, sfits_of}
+use borrow.Author.Rules.{sfits_of}
 use Rattle.point.proofs.PointLaws.{at-four}
 use Rattle.point.proofs.own.column.Goals as goal
 
 pub returns : goal.returns
-returns c =    let a = c.args in
+returns c = let a = c.args in
     let value : ℕ → ℤ = λ at. get_or a.part.now at (pos 0) in
     at-four (λ l z. z ≡ value (a.at + l * a.n)) (pos 0)
     (to_z-of_z w64 (value a.at) (sfits_of c.result-1.given) ∙ ap value (omega arith))

@@ -5,7 +5,6 @@ use Prim.Native.Nat.{ℕ, ◌+◌, ◌*◌}
 use native.Mathlib.Omega.{arith}
 use lib.IntN.{ℤ, pos}
 use lib.ListN.{get_or}
-use borrow.Author.Rules.{rules}
 use Rattle.point.proofs.PointLaws.{at-four, column-place}
 use Rattle.point.proofs.own.in_part.Goals as goal
 

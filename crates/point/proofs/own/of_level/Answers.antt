@@ -3,7 +3,6 @@ use mathlib.Core.Path.{◌∙◌}
 use Prim.Native.Nat.{◌+◌, ◌≤◌}
 use native.Mathlib.Omega.{arith}
 use lib.ListN.{length}
-use borrow.Author.Rules.{rules}
 use Rattle.activity.proofs.WindowLaws.{functions-le}
 use Rattle.coefficients.proofs.Parts.{level-fits, part_length}
 use Rattle.point.proofs.PointLaws.{rows_fit, level-own}
@@ -22,7 +21,7 @@ pub slice_bounds-in_part-end : goal.slice_bounds-in_part-end
 slice_bounds-in_part-end c = inside c
 
 pub in_part-requires : goal.in_part-requires
-in_part-requires c =    let a = c.args in
+in_part-requires c = let a = c.args in
     let n = c.functions-n in
     let size = part_length c.start-first.result c.places.result a.numbers.now (inside (goal.at.in_part-requires c).After-places) in (
       omega (arith, n.ensures.0),

@@ -1,7 +1,6 @@
 -- Each row is what the call gives of its rows.
 use mathlib.Core.List.{[]}
 use lib.ListN.{get_or}
-use borrow.Author.Rules.{rules}
 use Rattle.point.specs.Patches.{ChosenRow}
 use Rattle.point.proofs.PointLaws.{at-four}
 use Rattle.point.proofs.step.choose_all.Goals as goal

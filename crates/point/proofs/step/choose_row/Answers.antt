@@ -4,12 +4,12 @@ use mathlib.Core.Bool.{Bool, false, cond}
 use Prim.Native.Nat.{ℕ}
 use lib.IntN.{ℤ, pos}
 use lib.ListN.{get_or}
-use borrow.Author.Rules.{rules, sfits_of}
+use borrow.Author.Rules.{sfits_of}
 use Rattle.point.proofs.PointLaws.{at-four, chosen-read}
 use Rattle.point.proofs.step.choose_row.Goals as goal
 
 pub returns : goal.returns
-returns c =    let a = c.args in
+returns c = let a = c.args in
     let inside : ℕ → Bool = λ l. get_or a.inside l false in
     let own : ℕ → ℤ = λ l. get_or a.own l (pos 0) in
     let coarse : ℕ → ℤ = λ l. get_or a.coarse l (pos 0) in

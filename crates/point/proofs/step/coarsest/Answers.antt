@@ -1,7 +1,6 @@
 -- The own coefficients of the point's cell.
 use mathlib.Core.Path.{ap₂, ◌∙◌}
 use Prim.Native.Nat.{◌+◌}
-use borrow.Author.Rules.{rules}
 use Rattle.surface.specs.Patch.{patch}
 use Rattle.surface.specs.Table.{coefficients}
 use Rattle.point.proofs.step.coarsest.Goals as goal

@@ -2,7 +2,6 @@
 use mathlib.Core.Path.{◌∙◌}
 use Prim.Native.Nat.{◌-◌}
 use native.Mathlib.Omega.{arith}
-use borrow.Author.Rules.{rules}
 use Rattle.surface.specs.Table.{coefficients}
 use Rattle.rows.specs.Rows.{levels_of}
 use Rattle.patch.specs.Patches.{entry}

@@ -1,13 +1,12 @@
 -- The level of the quarter square that holds the point, by the regions that it lies in.
 use mathlib.Core.Path.{sym, ap₂, ◌∙◌}
-use borrow.Author.Rules.{rules}
 use Rattle.surface.proofs.Greatest.{stop-level}
 use Rattle.rows.specs.Rows.{levels_of}
 use Rattle.point.proofs.PatchLaws.{stop-small}
 use Rattle.point.proofs.stop.level_of.Goals as goal
 
 pub returns : goal.returns
-returns c =    let a = c.args in
+returns c = let a = c.args in
     let lev = levels_of a.rows.now in
     let level =
     c.level_at.ensures

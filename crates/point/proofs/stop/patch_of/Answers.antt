@@ -1,6 +1,6 @@
 -- After each turn the patch is that of the level reached, and the last level reached is the one to stop at.
 use mathlib.Core.Path.{◌≡◌, ◌∙◌, subst}
-use Prim.Native.Nat.{◌+◌, ◌-◌, ◌≤◌}
+use Prim.Native.Nat.{◌+◌, ◌-◌}
 use native.Mathlib.Omega.{arith}
 use Rattle.point.specs.Patches.{PatchAt}
 use Rattle.point.proofs.PatchLaws.{Readable, point-ready, finer-ready, stop-small}
@@ -13,13 +13,13 @@ given : (s : Start)
 given s = (s.requires.0, s.requires.1, s.requires.2)
 
 pub coarsest-patch-requires : goal.coarsest-patch-requires
-coarsest-patch-requires c =    let a = c.args in point-ready a.w a.h a.rows.now a.numbers.now a.u a.v (given c)
+coarsest-patch-requires c = let a = c.args in point-ready a.w a.h a.rows.now a.numbers.now a.u a.v (given c)
 
 pub loop-level-init : goal.loop-level-init
 loop-level-init c = (omega arith, c.coarsest-patch.ensures c.args.rows.now)
 
 pub finer-next-requires : goal.finer-next-requires
-finer-next-requires c =    let a = c.args in
+finer-next-requires c = let a = c.args in
     let level = c.loop-level.level in
     let before : level ≡ level + 1 - 1 = omega arith in
     let n = point-ready a.w a.h a.rows.now a.numbers.now a.u a.v (given (goal.at.finer-next-requires c).Start) in
@@ -33,7 +33,7 @@ pub loop-level-preserved : goal.loop-level-preserved
 loop-level-preserved c = (omega arith, c.finer-next.ensures)
 
 pub returns : goal.returns
-returns c =    let a = c.args in
+returns c = let a = c.args in
     let last : c.loop-level.level ≡ a.stop = omega arith in
     subst (λ L. PatchAt a.w a.h a.rows.now a.numbers.now a.u a.v L c.loop-level.patch)
     (last ∙ c.requires.3) c.loop-level.invariant.1

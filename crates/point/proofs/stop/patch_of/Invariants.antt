@@ -1,8 +1,5 @@
-use mathlib.Core.Path.{◌≡◌, ◌∙◌, subst}
-use Prim.Native.Nat.{◌+◌, ◌-◌, ◌≤◌}
-use native.Mathlib.Omega.{arith}
+use Prim.Native.Nat.{◌-◌, ◌≤◌}
 use Rattle.point.specs.Patches.{PatchAt}
-use Rattle.point.proofs.PatchLaws.{Readable, point-ready, finer-ready, stop-small}
 use Rattle.point.proofs.stop.patch_of.Given as goal
 
 abbrev pub invariant-loop-level : goal.invariant-loop-level

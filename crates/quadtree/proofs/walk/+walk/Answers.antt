@@ -1,5 +1,5 @@
 -- `walk` meets its contract: past the slice, a leaf, four quarters, four lesser squares.
-use Rattle.std.proofs.Common.{rules, arith, true, false, sym, ◌∙◌, ◌+◌, ◌/◌}
+use Rattle.std.proofs.Common.{arith, true, false, sym, ◌∙◌, ◌+◌, ◌/◌}
 use Rattle.quadtree.proofs.WalkLaws.{judged-past, judged-split, short, child-asks}
 use Rattle.quadtree.proofs.walk.+walk.Goals as goal
 

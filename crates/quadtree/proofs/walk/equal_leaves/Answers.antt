@@ -5,7 +5,6 @@ use Prim.Native.Nat.{ℕ, ◌+◌, ◌≤◌}
 use native.Mathlib.Omega.{arith}
 use lib.Dec.{eqb}
 use lib.ListN.{length}
-use borrow.Author.Rules.{rules}
 use borrow.Author.Tests.{eq-eqb, ne_eqb}
 use Rattle.quadtree.proofs.walk.equal_leaves.Goals.{Else-end-at}
 use Rattle.quadtree.proofs.walk.equal_leaves.Goals as goal
@@ -43,10 +42,10 @@ pub bounds-t-at-3 : goal.bounds-t-at-3
 bounds-t-at-3 c = omega (arith, room (goal.at.bounds-t-at-3 c).Else-end-at)
 
 pub returns-then-b-t-2 : goal.returns-then-b-t-2
-returns-then-b-t-2 c =    test-3 _ c.if-end-at.false c.if-b-t.false c.if-b-t-2.true
+returns-then-b-t-2 c = test-3 _ c.if-end-at.false c.if-b-t.false c.if-b-t-2.true
 
 pub bounds-t-at-4 : goal.bounds-t-at-4
 bounds-t-at-4 c = omega (arith, room (goal.at.bounds-t-at-4 c).Else-end-at)
 
 pub returns : goal.returns
-returns c =    test-4 _ c.if-end-at.false c.if-b-t.false c.if-b-t-2.false
+returns c = test-4 _ c.if-end-at.false c.if-b-t.false c.if-b-t-2.false

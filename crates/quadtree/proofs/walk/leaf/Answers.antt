@@ -4,8 +4,6 @@ use mathlib.Core.Bool.{true}
 use Prim.Native.Nat.{ℕ, ◌^◌, ◌≤◌}
 use native.Mathlib.Omega.{arith}
 use lib.ListN.{get_or}
-use borrow.Author.Rules.{rules}
-use borrow.Author.Tests.{not-true, not-false}
 use Rattle.surface.specs.Quadtree.{leaf, well_formed}
 use Rattle.quadtree.proofs.WalkLaws.{form-low, judged-past, judged-bad, judged-leaf, short, side-some}
 use Rattle.quadtree.proofs.walk.leaf.Goals.{Else-not-leaf_formed, Start}
@@ -24,21 +22,21 @@ low : (c : Else-not-leaf_formed) → get_or (start c).args.t.now (start c).args.
 low c = let s = (start c).requires.0 in form-low _ _ _ _ _ _ (formed c s.height s.power)
 
 pub returns-then-t-at : goal.returns-then-t-at
-returns-then-t-at c =    judged-past (short _ c.well_formed.0.1) c.requires.3 c.if-t-at.true
+returns-then-t-at c = judged-past (short _ c.well_formed.0.1) c.requires.3 c.if-t-at.true
 
 pub returns-then-not-leaf_formed : goal.returns-then-not-leaf_formed
-returns-then-not-leaf_formed c =    judged-bad (short _ c.well_formed.0.1) c.requires.3 c.if-t-at.false c.requires.4
+returns-then-not-leaf_formed c = judged-bad (short _ c.well_formed.0.1) c.requires.3 c.if-t-at.false c.requires.4
     (λ k p. sym c.if-not-leaf_formed.true ∙ c.leaf_formed.ensures k p)
 
 pub overflow_cast-b : goal.overflow_cast-b
 overflow_cast-b c = omega (arith, low (goal.at.overflow_cast-b c).Else-not-leaf_formed)
 
 pub raise_quarter-requires : goal.raise_quarter-requires
-raise_quarter-requires c =    let p = (start (goal.at.raise_quarter-requires c).Else-not-leaf_formed).requires in
+raise_quarter-requires c = let p = (start (goal.at.raise_quarter-requires c).Else-not-leaf_formed).requires in
     (omega (arith, p, c.if-side-eq1.true), omega (arith, p, c.if-side-eq1.true), low (goal.at.raise_quarter-requires c).Else-not-leaf_formed, p.3)
 
 pub returns-then-side-eq1 : goal.returns-then-side-eq1
-returns-then-side-eq1 c =    let s = start (goal.at.returns-then-side-eq1 c).Else-not-leaf_formed in
+returns-then-side-eq1 c = let s = start (goal.at.returns-then-side-eq1 c).Else-not-leaf_formed in
     judged-leaf (short _ s.well_formed.0.1) s.requires.3 c.if-t-at.false s.requires.4 (formed (goal.at.returns-then-side-eq1 c).Else-not-leaf_formed)
     (rw c.if-side-eq1.true c.raise_quarter.ensures)
 
@@ -46,10 +44,10 @@ pub overflow_cast-b-2 : goal.overflow_cast-b-2
 overflow_cast-b-2 c = omega (arith, low (goal.at.overflow_cast-b-2 c).Else-not-leaf_formed)
 
 pub raise_square-requires : goal.raise_square-requires
-raise_square-requires c =    let p = (start (goal.at.raise_square-requires c).Else-not-leaf_formed).requires in
+raise_square-requires c = let p = (start (goal.at.raise_square-requires c).Else-not-leaf_formed).requires in
     (side-some p.0, p.0.in_u, p.0.in_v, low (goal.at.raise_square-requires c).Else-not-leaf_formed, p.3)
 
 pub returns : goal.returns
-returns c =    let s = start (goal.at.returns c).Else-not-leaf_formed in
+returns c = let s = start (goal.at.returns c).Else-not-leaf_formed in
     judged-leaf (short _ s.well_formed.0.1) s.requires.3 c.if-t-at.false s.requires.4 (formed (goal.at.returns c).Else-not-leaf_formed)
     c.raise_square.ensures

@@ -3,7 +3,6 @@ use mathlib.Core.Path.{◌≡◌, refl, sym, ◌∙◌}
 use mathlib.Core.Bool.{Bool, true, false, cond}
 use Prim.Native.Nat.{ℕ, ◌+◌, ◌≤◌}
 use native.Mathlib.Omega.{arith}
-use borrow.Author.Rules.{rules}
 use Rattle.quadtree.specs.End.{nowhere, equal_bytes}
 use Rattle.quadtree.specs.Subtree.{Square}
 use Rattle.quadtree.specs.Judged.{Judged}
@@ -29,23 +28,23 @@ single : (x y : ℕ) → x + 1 ≤ 32 → y + 1 ≤ 32 → Square x y 1
 single x y u v = record { height = 0; power = refl; in_u = u; in_v = v }
 
 pub leaf-p1-requires : goal.leaf-p1-requires
-leaf-p1-requires c =    let p = c.requires in
+leaf-p1-requires c = let p = c.requires in
     (single _ _ (omega (arith, p)) (omega (arith, p)), p.2, p.3, p.4, λ four. refl)
 
 pub leaf-p2-requires : goal.leaf-p2-requires
-leaf-p2-requires c =    let p = c.requires in
+leaf-p2-requires c = let p = c.requires in
     (single _ _ (omega (arith, p)) (omega (arith, p)), p.2, p.3, c.leaf-p1.ensures.size, λ four. refl)
 
 pub leaf-p3-requires : goal.leaf-p3-requires
-leaf-p3-requires c =    let p = c.requires in
+leaf-p3-requires c = let p = c.requires in
     (single _ _ (omega (arith, p)) (omega (arith, p)), p.2, p.3, c.leaf-p2.ensures.size, λ four. refl)
 
 pub leaf-p4-requires : goal.leaf-p4-requires
-leaf-p4-requires c =    let p = c.requires in
+leaf-p4-requires c = let p = c.requires in
     (single _ _ (omega (arith, p)) (omega (arith, p)), p.2, p.3, c.leaf-p3.ensures.size, λ four. refl)
 
 pub equal_leaves-requires : goal.equal_leaves-requires
-equal_leaves-requires c =    let s = start c in
+equal_leaves-requires c = let s = start c in
     (omega (arith, s.requires.5), λ five. c.leaf-p4.ensures.inside (omega (arith, s.requires.5, s.well_formed.0.1)))
 
 pub returns-then-equal_leaves : goal.returns-then-equal_leaves

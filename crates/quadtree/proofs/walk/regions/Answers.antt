@@ -9,11 +9,11 @@ use Rattle.quadtree.proofs.WalkLaws.{short, tree-rows}
 use Rattle.quadtree.proofs.walk.regions.Goals as goal
 
 pub walk-requires : goal.walk-requires
-walk-requires c =    let p = c.requires in
+walk-requires c = let p = c.requires in
     (record { height = 5; power = refl; in_u = omega arith; in_v = omega arith }, omega arith, p.0, p.1, refl)
 
 pub returns : goal.returns
-returns c =    let t = c.args.t.now in
+returns c = let t = c.args.t.now in
     let found = c.walk.ensures in
     let form =
     ap (λ p. eqb p (length t)) (found.ends 5 refl) ∙ form-end c.args.w c.args.h t (short _ c.well_formed.0.1) in

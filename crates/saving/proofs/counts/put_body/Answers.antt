@@ -1,12 +1,7 @@
 -- `put_body` meets its contract: before each turn the counts of the levels below it are put.
 use mathlib.Core.Path.{◌≡◌, refl, ◌∙◌, subst}
-use mathlib.Core.List.{List}
-use Prim.Native.Nat.{ℕ, ◌+◌, ◌-◌, ◌*◌, ◌≤◌}
 use native.Mathlib.Omega.{arith}
-use lib.ListN.{length, get_or}
-use borrow.Author.Rules.{rules}
 use Rattle.finite.specs.Range.{joined}
-use Rattle.surface.specs.Fields.{two_bytes}
 use Rattle.fields.specs.Put.{Put}
 use Rattle.fields.proofs.PutLaws.{put-none, put_next}
 use Rattle.surface.specs.TableFile.{counts_body}
@@ -14,14 +9,14 @@ use Rattle.saving.proofs.counts.put_body.Invariants.{texts}
 use Rattle.saving.proofs.counts.put_body.Goals as goal
 
 pub loop-level-init : goal.loop-level-init
-loop-level-init c =    let a = c.args in (omega arith, refl, omega arith, put-none (texts a.counts) a.at a.out.now)
+loop-level-init c = let a = c.args in (omega arith, refl, omega arith, put-none (texts a.counts) a.at a.out.now)
 
 pub put_two-to-requires : goal.put_two-to-requires
-put_two-to-requires c =    let loop = c.loop-level in
+put_two-to-requires c = let loop = c.loop-level in
     omega (arith, c.requires, loop.invariant.1, loop.invariant.2, c.loop-level-test.true)
 
 pub loop-level-preserved : goal.loop-level-preserved
-loop-level-preserved c =    let loop = c.loop-level in
+loop-level-preserved c = let loop = c.loop-level in
     let a = c.args in (
       omega (arith, c.loop-level-test.true),
       c.put_two-to.auto.out ∙ loop.invariant.1,
@@ -32,7 +27,7 @@ loop-level-preserved c =    let loop = c.loop-level in
 
 pub returns : goal.returns
 unfolding counts_body
-returns c =    let loop = c.loop-level in
+returns c = let loop = c.loop-level in
     let a = c.args in
     let all : loop.level ≡ 4 = omega (arith, c.loop-level-test.false) in
     subst (λ n. Put (joined n (texts a.counts)) a.at a.out.now loop.to loop.out) all loop.invariant.3

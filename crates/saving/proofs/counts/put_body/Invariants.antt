@@ -1,14 +1,10 @@
-use mathlib.Core.Path.{◌≡◌, refl, ◌∙◌, subst}
+use mathlib.Core.Path.{◌≡◌}
 use mathlib.Core.List.{List}
 use Prim.Native.Nat.{ℕ, ◌+◌, ◌-◌, ◌*◌, ◌≤◌}
-use native.Mathlib.Omega.{arith}
 use lib.ListN.{length, get_or}
-use borrow.Author.Rules.{rules}
 use Rattle.finite.specs.Range.{joined}
 use Rattle.surface.specs.Fields.{two_bytes}
 use Rattle.fields.specs.Put.{Put}
-use Rattle.fields.proofs.PutLaws.{put-none, put_next}
-use Rattle.surface.specs.TableFile.{counts_body}
 use Rattle.saving.proofs.counts.put_body.Given as goal
 
 abbrev pub texts : List ℕ → ℕ → List ℕ

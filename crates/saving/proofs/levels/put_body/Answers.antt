@@ -1,11 +1,10 @@
 -- `put_body` meets its contract: before each turn the rows below b are put.
 use mathlib.Core.Path.{◌≡◌, refl, ap, ◌∙◌, subst}
 use mathlib.Core.List.{List}
-use Prim.Native.Nat.{ℕ, ◌+◌, ◌-◌, ◌*◌, ◌≤◌, ◌<◌}
+use Prim.Native.Nat.{ℕ, ◌+◌, ◌*◌, ◌≤◌, ◌<◌}
 use native.Mathlib.Nat.{le-add_right}
 use native.Mathlib.Omega.{arith}
 use lib.ListN.{length}
-use borrow.Author.Rules.{rules}
 use Rattle.finite.specs.Range.{joined}
 use Rattle.finite.proofs.Joined.{joined-through}
 use Rattle.surface.specs.Sheet.{functions}
@@ -28,7 +27,7 @@ texts s b =
     row_bytes a.w a.h (levels_of a.rows.now) (in_part a.w a.part.now) a.level b
 
 pub loop-b-init : goal.loop-b-init
-loop-b-init c =    (omega arith, refl, put-none (texts (goal.at.loop-b-init c).Start) c.args.at c.args.out.now)
+loop-b-init c = (omega arith, refl, put-none (texts (goal.at.loop-b-init c).Start) c.args.at c.args.out.now)
 
 -- a turn's row is one of the level's, and stands in its part
 below : (c : In-loop-b)
@@ -45,7 +44,7 @@ inside c =
     a.part.now c.functions-n.ensures.0 c.functions-m.ensures.0 c.loop-b-test.true c.requires.4
 
 pub active_row-marks-requires : goal.active_row-marks-requires
-active_row-marks-requires c =    (c.requires.0, c.requires.1, c.requires.2, below c, c.requires.3)
+active_row-marks-requires c = (c.requires.0, c.requires.1, c.requires.2, below c, c.requires.3)
 
 -- what a turn adds is its row's
 same : (c : After-active_row-marks)
@@ -59,13 +58,13 @@ same c =
     c.eighths-e.ensures (inside c.before) c.active_row-marks.ensures
 
 pub offset_bounds-part-from : goal.offset_bounds-part-from
-offset_bounds-part-from c =    let few = row_small c.loop-b.b c.functions-m.result c.functions-n.result
+offset_bounds-part-from c = let few = row_small c.loop-b.b c.functions-m.result c.functions-n.result
     c.loop-b-test.true c.functions-m.ensures.1 c.functions-n.ensures.1 in
     omega (arith, few.0)
 
 pub put_row-to-requires : goal.put_row-to-requires
 unfolding level_body
-put_row-to-requires c =    let loop = c.loop-b in
+put_row-to-requires c = let loop = c.loop-b in
     let a = c.args in (
       omega (arith, c.eighths-e.ensures, eighths-le a.level),
       omega (
@@ -82,7 +81,7 @@ put_row-to-requires c =    let loop = c.loop-b in
     )
 
 pub loop-b-preserved : goal.loop-b-preserved
-loop-b-preserved c =    let loop = c.loop-b in
+loop-b-preserved c = let loop = c.loop-b in
     let a = c.args in (
       omega (arith, c.loop-b-test.true),
       c.put_row-to.auto.out ∙ loop.invariant.1,
@@ -92,7 +91,7 @@ loop-b-preserved c =    let loop = c.loop-b in
 
 pub returns : goal.returns
 unfolding level_body
-returns c =    let loop = c.loop-b in
+returns c = let loop = c.loop-b in
     let a = c.args in
     let all : loop.b ≡ functions a.h a.level = omega (arith, c.loop-b-test.false, c.functions-m.ensures.0) in
     subst (λ m. Put (joined m (texts (goal.at.returns c).Start)) a.at a.out.now loop.to loop.out) all loop.invariant.2

@@ -1,22 +1,11 @@
-use mathlib.Core.Path.{◌≡◌, refl, ap, ◌∙◌, subst}
-use mathlib.Core.List.{List}
-use Prim.Native.Nat.{ℕ, ◌+◌, ◌-◌, ◌*◌, ◌≤◌, ◌<◌}
-use native.Mathlib.Nat.{le-add_right}
-use native.Mathlib.Omega.{arith}
+use mathlib.Core.Path.{◌≡◌}
+use Prim.Native.Nat.{◌-◌, ◌≤◌}
 use lib.ListN.{length}
-use borrow.Author.Rules.{rules}
 use Rattle.finite.specs.Range.{joined}
-use Rattle.finite.proofs.Joined.{joined-through}
-use Rattle.surface.specs.Sheet.{functions}
-use Rattle.surface.specs.TableFile.{row_bytes, level_body}
+use Rattle.surface.specs.TableFile.{row_bytes}
 use Rattle.rows.specs.Rows.{levels_of}
-use Rattle.activity.specs.Marks.{marked}
-use Rattle.activity.proofs.WindowLaws.{eighths-le}
-use Rattle.coefficients.proofs.Parts.{part, row_small, row_fits}
 use Rattle.fields.specs.Put.{Put}
-use Rattle.fields.proofs.PutLaws.{put-none, put_next}
-use Rattle.saving.specs.Saved.{in_part, marked_bytes}
-use Rattle.saving.proofs.BodyLaws.{row-bytes, row-spelt}
+use Rattle.saving.specs.Saved.{in_part}
 use Rattle.saving.proofs.levels.put_body.Given as goal
 
 abbrev pub invariant-loop-b : goal.invariant-loop-b

@@ -1,11 +1,10 @@
 -- `put_levels` meets its contract: before each turn the fields of the levels below it are put.
 use mathlib.Core.Path.{◌≡◌, refl, ap, ◌∙◌, subst}
 use mathlib.Core.List.{List}
-use Prim.Native.Nat.{ℕ, ◌+◌, ◌-◌, ◌≤◌, ◌<◌}
+use Prim.Native.Nat.{ℕ, ◌+◌, ◌≤◌}
 use native.Mathlib.Nat.{le-add_right}
 use native.Mathlib.Omega.{arith}
 use lib.ListN.{length}
-use borrow.Author.Rules.{rules}
 use Rattle.finite.specs.Range.{joined}
 use Rattle.finite.proofs.Joined.{joined-through}
 use Rattle.surface.specs.Table.{coefficients}
@@ -48,7 +47,7 @@ same c =
     a.numbers.now c.start-first.ensures.0 c.places.ensures.0
 
 pub put_level-to-requires : goal.put_level-to-requires
-put_level-to-requires c =    let loop = c.loop-level in
+put_level-to-requires c = let loop = c.loop-level in
     let a = c.args in
     let p = c.requires in
     let taken = c.loop-level-test.true in (
@@ -73,7 +72,7 @@ put_level-to-requires c =    let loop = c.loop-level in
     )
 
 pub loop-level-preserved : goal.loop-level-preserved
-loop-level-preserved c =    let loop = c.loop-level in
+loop-level-preserved c = let loop = c.loop-level in
     let a = c.args in (
       omega (arith, c.loop-level-test.true),
       c.put_level-to.auto.out ∙ loop.invariant.1,
@@ -82,7 +81,7 @@ loop-level-preserved c =    let loop = c.loop-level in
     )
 
 pub returns : goal.returns
-returns c =    let loop = c.loop-level in
+returns c = let loop = c.loop-level in
     let a = c.args in
     let all : loop.level ≡ 4 = omega (arith, c.loop-level-test.false) in
     subst (λ n. Put (joined n (texts (goal.at.returns c).Start)) a.at a.out.now loop.to loop.out) all loop.invariant.2

@@ -1,19 +1,11 @@
-use mathlib.Core.Path.{◌≡◌, refl, ap, ◌∙◌, subst}
-use mathlib.Core.List.{List}
-use Prim.Native.Nat.{ℕ, ◌+◌, ◌-◌, ◌≤◌, ◌<◌}
-use native.Mathlib.Nat.{le-add_right}
-use native.Mathlib.Omega.{arith}
+use mathlib.Core.Path.{◌≡◌}
+use Prim.Native.Nat.{◌-◌, ◌≤◌}
 use lib.ListN.{length}
-use borrow.Author.Rules.{rules}
 use Rattle.finite.specs.Range.{joined}
-use Rattle.finite.proofs.Joined.{joined-through}
 use Rattle.surface.specs.Table.{coefficients}
 use Rattle.rows.specs.Rows.{levels_of}
-use Rattle.coefficients.proofs.Parts.{part, part_length, level-fits}
 use Rattle.fields.specs.Put.{Put}
-use Rattle.fields.proofs.PutLaws.{put-none, put_next}
-use Rattle.saving.specs.Saved.{in_part, level_under}
-use Rattle.saving.proofs.BodyLaws.{part-under, part-spelt}
+use Rattle.saving.specs.Saved.{level_under}
 use Rattle.saving.proofs.levels.put_levels.Given as goal
 
 abbrev pub invariant-loop-level : goal.invariant-loop-level

@@ -1,7 +1,7 @@
 -- `put_row` meets its contract: before each turn the marked numbers below a are put.
 use mathlib.Core.Path.{◌≡◌, refl, ap, ap₂, ◌∙◌, subst}
 use mathlib.Core.List.{List}
-use Prim.Native.Nat.{ℕ, ◌-◌, ◌%◌, ◌≤◌}
+use Prim.Native.Nat.{ℕ, ◌%◌}
 use native.Mathlib.Omega.{arith}
 use lib.IntN.{pos}
 use lib.Dec.{leb}
@@ -12,7 +12,7 @@ use mir.Val.{to_z, of_z}
 use mir.ValLaws.{to_z-of_z}
 use Rattle.finite.specs.Range.{joined}
 use Rattle.finite.proofs.Joined.{joined-through}
-use Rattle.activity.specs.Marks.{marked, From}
+use Rattle.activity.specs.Marks.{marked}
 use Rattle.activity.proofs.StepLaws.{from-none, from_next, from-here}
 use Rattle.fields.specs.Put.{Put}
 use Rattle.fields.proofs.PutLaws.{put-none, put_next}
@@ -25,7 +25,7 @@ abbrev texts : Start → ℕ → List ℕ
 texts s a = bytes_if (marked s.args.e s.args.marks a) (get_or s.args.row.now a (pos 0))
 
 pub loop-a-init : goal.loop-a-init
-loop-a-init c =    (omega arith, refl, from-none c.args.e c.args.marks, put-none (texts (goal.at.loop-a-init c).Start) c.args.at c.args.out.now)
+loop-a-init c = (omega arith, refl, from-none c.args.e c.args.marks, put-none (texts (goal.at.loop-a-init c).Start) c.args.at c.args.out.now)
 
 -- what a turn adds is its place's
 same : (c : After-put_if-arg-in-loop-a-1)
@@ -37,7 +37,7 @@ same c =
     (to_z-of_z w64 (get_or c.args.row.now c.loop-a.a (pos 0)) (sfits_of c.put_if-arg-1.given))
 
 pub put_if-to-requires : goal.put_if-to-requires
-put_if-to-requires c =    let loop = c.loop-a in
+put_if-to-requires c = let loop = c.loop-a in
     let taken = c.loop-a-test.true in (
       omega (
         arith,
@@ -52,7 +52,7 @@ put_if-to-requires c =    let loop = c.loop-a in
     )
 
 pub loop-a-preserved : goal.loop-a-preserved
-loop-a-preserved c =    let loop = c.loop-a in
+loop-a-preserved c = let loop = c.loop-a in
     let a = c.args in (
       omega (arith, c.loop-a-test.true),
       c.put_if-to.auto.out ∙ loop.invariant.1,
@@ -65,7 +65,7 @@ pub shape_of-out : goal.shape_of-out
 shape_of-out c = c.loop-a.invariant.1
 
 pub returns : goal.returns
-returns c =    let loop = c.loop-a in
+returns c = let loop = c.loop-a in
     let a = c.args in
     let all : loop.a ≡ length a.row.now = omega (arith, c.loop-a-test.false) in
     subst (λ n. Put (joined n (texts (goal.at.returns c).Start)) a.at a.out.now loop.to loop.out) all loop.invariant.3

@@ -2,7 +2,6 @@
 use mathlib.Core.Path.{◌≡◌, refl, sym, ◌∙◌}
 use mathlib.Core.Bool.{Bool, true, false, not, not-not}
 use native.Mathlib.Omega.{arith}
-use borrow.Author.Rules.{rules}
 use borrow.Author.Tests.{eq-eqb, ne_eqb}
 use lib.ListN.{length}
 use Rattle.surface.specs.Table.{levels, slots, region_cause, table_cause}
@@ -13,11 +12,11 @@ use Rattle.table.proofs.cause.check.Goals.{After-of_table-f, Else-numbers-slots,
 use Rattle.table.proofs.cause.check.Goals as goal
 
 pub returns-then-region-ne0 : goal.returns-then-region-ne0
-returns-then-region-ne0 c =    let a = c.args in (
-      table-region a.w a.h a.t.now a.numbers.now c.region_cause-region.result
-          c.region_cause-region.ensures.0 c.if-region-ne0.true,
-      λ e. absurd (c.if-region-ne0.true e),
-    )
+returns-then-region-ne0 c = let a = c.args in (
+  table-region a.w a.h a.t.now a.numbers.now c.region_cause-region.result
+      c.region_cause-region.ensures.0 c.if-region-ne0.true,
+  λ e. absurd (c.if-region-ne0.true e),
+)
 
 -- past the first two causes
 none : (c : Else-region-ne0)
@@ -25,12 +24,12 @@ none : (c : Else-region-ne0)
 none c = sym c.if-region-ne0.false ∙ c.region_cause-region.ensures.0
 
 pub start-slots-requires : goal.start-slots-requires
-start-slots-requires c =    let a = c.args in
+start-slots-requires c = let a = c.args in
     let sides = region-none a.w a.h a.t.now (none c) in
     (sides.1, sides.2, omega arith)
 
 pub returns-then-numbers-slots : goal.returns-then-numbers-slots
-returns-then-numbers-slots c =    let a = c.args in
+returns-then-numbers-slots c = let a = c.args in
     let cs = a.numbers.now in
     let other : length cs ≡ slots a.w a.h → ⊥ = λ e. c.if-numbers-slots.true (e ∙ sym c.start-slots.ensures.0) in (
       table-by a.w a.h a.t.now cs false _ _ (none (goal.at.returns-then-numbers-slots c).Else-region-ne0) (sym (ne_eqb (length cs) (slots a.w a.h) other))
@@ -49,7 +48,7 @@ painted : (c : Else-region-ne0)
 painted c = c.region_cause-region.ensures.1 c.if-region-ne0.false
 
 pub of_table-f-requires : goal.of_table-f-requires
-of_table-f-requires c =    let a = c.args in
+of_table-f-requires c = let a = c.args in
     let sides = region-none a.w a.h a.t.now (none (goal.at.of_table-f-requires c).Else-region-ne0) in
     (sides.1, sides.2, size c, rw (painted (goal.at.of_table-f-requires c).Else-region-ne0) (rows-nested (levels a.t.now)))
 
@@ -73,11 +72,11 @@ flagged c l z over stray =
     c.of_table-f.ensures.zeroed stray)
 
 pub returns-then-f : goal.returns-then-f
-returns-then-f c =    let stray = c.of_table-f.result.stray in
+returns-then-f c = let stray = c.of_table-f.result.stray in
     (flagged (goal.at.returns-then-f c).After-of_table-f false (not stray) c.if-f.true (sym (not-not stray)), λ e. absurd (omega arith))
 
 pub returns-then-f-2 : goal.returns-then-f-2
-returns-then-f-2 c =    (flagged (goal.at.returns-then-f-2 c).After-of_table-f true false c.if-f.false c.if-f-2.true, λ e. absurd (omega arith))
+returns-then-f-2 c = (flagged (goal.at.returns-then-f-2 c).After-of_table-f true false c.if-f.false c.if-f-2.true, λ e. absurd (omega arith))
 
 pub returns : goal.returns
 returns c = (

@@ -3,7 +3,6 @@ use mathlib.Core.Path.{◌≡◌, refl}
 use Prim.Native.Nat.{◌+◌, ◌*◌, ◌≤◌}
 use native.Mathlib.Nat.{mul-le-mul_right, le-add_right}
 use native.Mathlib.Omega.{arith}
-use borrow.Author.Rules.{rules}
 use lib.ListN.{length, length-take, length-drop}
 use Rattle.surface.specs.Sheet.{functions}
 use Rattle.surface.specs.Table.{start}
@@ -32,7 +31,7 @@ inside c =
     (begins c) (omega (arith, c.requires.1)) c.requires.2)
 
 pub next_row-requires : goal.next_row-requires
-next_row-requires c =    let a = c.args in
+next_row-requires c = let a = c.args in
     let p = c.requires in
     let w = p.5.1 in (
       p.0.small-W,
@@ -51,7 +50,7 @@ next_row-requires c =    let a = c.args in
     )
 
 pub returns : goal.returns
-returns c =    let a = c.args in
+returns c = let a = c.args in
     let n = c.functions-n.result in
     row-carried a.w a.h a.rows.now a.numbers.now a.level a.b a.first c.requires.5.0
     (c.start.result + a.b * n) n a.coarse.now c.next_row.new.row c.functions-n.ensures.0

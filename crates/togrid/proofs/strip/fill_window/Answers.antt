@@ -1,11 +1,9 @@
 -- `fill_window` meets its contract: before each turn the rows below i have their carried values.
 use mathlib.Core.Path.{◌≡◌, refl, sym, ◌∙◌, subst}
-use Prim.Native.Nat.{◌+◌, ◌-◌, ◌*◌, ◌/◌, ◌≤◌, ◌<◌}
+use Prim.Native.Nat.{◌+◌, ◌*◌, ◌/◌, ◌≤◌, ◌<◌}
 use native.Mathlib.Nat.{le-add_right, not-suc-le-zero}
 use native.Mathlib.Omega.{arith}
-use borrow.Author.Rules.{rules}
 use lib.ListN.{length}
-use Rattle.surface.specs.Sheet.{functions}
 use Rattle.activity.proofs.WindowLaws.{functions-le}
 use Rattle.coefficients.proofs.Parts.{part_length, row_next}
 use Rattle.carry.specs.Carried.{RowsOf}
@@ -35,7 +33,7 @@ few s =
     omega (arith, s.requires.2, functions-le a.h (a.level + 1) s.requires.0.small-H (omega (arith, s.requires.1)))
 
 pub carried_row-requires : goal.carried_row-requires
-carried_row-requires c =    let loop = c.loop-i in
+carried_row-requires c = let loop = c.loop-i in
     let n = c.functions-n in
     let p = c.requires in (
       p.0,
@@ -47,7 +45,7 @@ carried_row-requires c =    let loop = c.loop-i in
     )
 
 pub loop-i-preserved : goal.loop-i-preserved
-loop-i-preserved c =    let loop = c.loop-i in
+loop-i-preserved c = let loop = c.loop-i in
     let n = c.functions-n in
     let a = c.args in
     let row = c.carried_row.ensures in (
@@ -61,7 +59,7 @@ loop-i-preserved c =    let loop = c.loop-i in
     )
 
 pub returns : goal.returns
-returns c =    let loop = c.loop-i in
+returns c = let loop = c.loop-i in
     let n = c.functions-n in
     let a = c.args in
     let all : loop.i ≡ a.count = omega (arith, c.loop-i-test.false) in

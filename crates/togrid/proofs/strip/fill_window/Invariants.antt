@@ -1,15 +1,8 @@
-use mathlib.Core.Path.{◌≡◌, refl, sym, ◌∙◌, subst}
-use Prim.Native.Nat.{◌+◌, ◌-◌, ◌*◌, ◌/◌, ◌≤◌, ◌<◌}
-use native.Mathlib.Nat.{le-add_right, not-suc-le-zero}
-use native.Mathlib.Omega.{arith}
-use borrow.Author.Rules.{rules}
+use mathlib.Core.Path.{◌≡◌}
+use Prim.Native.Nat.{◌+◌, ◌-◌, ◌*◌, ◌≤◌}
 use lib.ListN.{length}
-use Rattle.surface.specs.Sheet.{functions}
-use Rattle.activity.proofs.WindowLaws.{functions-le}
-use Rattle.coefficients.proofs.Parts.{part_length, row_next}
 use Rattle.carry.specs.Carried.{RowsOf}
 use Rattle.togrid.specs.Strips.{value}
-use Rattle.togrid.proofs.WindowLaws.{row_inside, rows_more}
 use Rattle.togrid.proofs.strip.fill_window.Given as goal
 
 abbrev pub invariant-loop-i : goal.invariant-loop-i

@@ -1,7 +1,7 @@
 -- `put_numbers` meets its contract: before each turn the numbers below a are put.
 use mathlib.Core.Path.{◌≡◌, refl, ap, ◌∙◌, subst}
 use mathlib.Core.List.{List}
-use Prim.Native.Nat.{ℕ, ◌-◌, ◌≤◌}
+use Prim.Native.Nat.{ℕ}
 use native.Mathlib.Omega.{arith}
 use lib.IntN.{pos}
 use lib.ListN.{length, get_or}
@@ -22,7 +22,7 @@ abbrev texts : Start → ℕ → List ℕ
 texts s a = number_bytes (get_or s.args.row.now a (pos 0))
 
 pub loop-a-init : goal.loop-a-init
-loop-a-init c =    (omega arith, refl, put-none (texts (goal.at.loop-a-init c).Start) c.args.at c.args.out.now)
+loop-a-init c = (omega arith, refl, put-none (texts (goal.at.loop-a-init c).Start) c.args.at c.args.out.now)
 
 -- a turn's number as it was read
 same : (c : After-put-arg-1)
@@ -32,7 +32,7 @@ same c =
     to_z-of_z w64 (get_or c.args.row.now c.loop-a.a (pos 0)) (sfits_of c.put-arg-1.given)
 
 pub put-to-requires : goal.put-to-requires
-put-to-requires c =    let loop = c.loop-a in
+put-to-requires c = let loop = c.loop-a in
     let taken = c.loop-a-test.true in (
       omega (
         arith,
@@ -45,7 +45,7 @@ put-to-requires c =    let loop = c.loop-a in
     )
 
 pub loop-a-preserved : goal.loop-a-preserved
-loop-a-preserved c =    let loop = c.loop-a in
+loop-a-preserved c = let loop = c.loop-a in
     let a = c.args in (
       omega (arith, c.loop-a-test.true),
       c.put-to.auto.out ∙ loop.invariant.1,
@@ -55,7 +55,7 @@ loop-a-preserved c =    let loop = c.loop-a in
     )
 
 pub returns : goal.returns
-returns c =    let loop = c.loop-a in
+returns c = let loop = c.loop-a in
     let a = c.args in
     let all : loop.a ≡ length a.row.now = omega (arith, c.loop-a-test.false) in
     subst (λ n. Put (joined n (texts (goal.at.returns c).Start)) a.at a.out.now loop.to loop.out) all loop.invariant.2

@@ -1,18 +1,10 @@
-use mathlib.Core.Path.{◌≡◌, refl, ap, ◌∙◌, subst}
-use mathlib.Core.List.{List}
-use Prim.Native.Nat.{ℕ, ◌-◌, ◌≤◌}
-use native.Mathlib.Omega.{arith}
+use mathlib.Core.Path.{◌≡◌}
+use Prim.Native.Nat.{◌-◌, ◌≤◌}
 use lib.IntN.{pos}
 use lib.ListN.{length, get_or}
-use borrow.Author.Rules.{sfits_of}
-use mir.Syntax.{w64}
-use mir.Val.{to_z, of_z}
-use mir.ValLaws.{to_z-of_z}
 use Rattle.finite.specs.Range.{joined}
-use Rattle.finite.proofs.Joined.{joined-through}
 use Rattle.surface.specs.Fields.{number_bytes}
 use Rattle.fields.specs.Put.{Put}
-use Rattle.fields.proofs.PutLaws.{put-none, put_next}
 use Rattle.togrid.proofs.strip.put_numbers.Given as goal
 
 abbrev pub invariant-loop-a : goal.invariant-loop-a

@@ -1,9 +1,8 @@
 -- `put_rows` meets its contract: before each turn the rows below i are put.
 use mathlib.Core.Path.{◌≡◌, refl, sym, ap, ◌∙◌, subst}
 use mathlib.Core.List.{List, ◌++◌}
-use Prim.Native.Nat.{ℕ, ◌+◌, ◌-◌, ◌*◌, ◌≤◌}
+use Prim.Native.Nat.{ℕ, ◌+◌, ◌*◌, ◌≤◌}
 use native.Mathlib.Omega.{arith}
-use borrow.Author.Rules.{rules}
 use lib.IntN.{ℤ}
 use lib.ListN.{length, take, drop, length-append, length-drop}
 use lib.Seq.{length-take-le}
@@ -22,7 +21,7 @@ abbrev texts : Start → ℕ → List ℕ
 texts s i = let a = s.args in grid_row a.w a.h a.rows.now a.numbers.now (2 * a.first + i)
 
 pub loop-i-init : goal.loop-i-init
-loop-i-init c =    (omega arith, refl, refl, put-none (texts (goal.at.loop-i-init c).Start) c.args.at c.args.out.now)
+loop-i-init c = (omega arith, refl, refl, put-none (texts (goal.at.loop-i-init c).Start) c.args.at c.args.out.now)
 
 -- there are few
 few : (s : Start) → 2 * s.args.first + s.args.count ≤ 67
@@ -35,7 +34,7 @@ place l =
     length-take-le n.result l.loop-i.row (omega (arith, n.ensures.1, l.loop-i.invariant.1))
 
 pub carried_row-requires : goal.carried_row-requires
-carried_row-requires c =    let p = c.requires in
+carried_row-requires c = let p = c.requires in
     let below = c.loop-i-test.true in (
       p.0,
       omega arith,
@@ -79,7 +78,7 @@ same c =
     row-bytes a.w a.h a.rows.now a.numbers.now (2 * a.first + (turn c).loop-i.i) (lent c) (own c)
 
 pub put_numbers-to-requires : goal.put_numbers-to-requires
-put_numbers-to-requires c =    let loop = (turn (goal.at.put_numbers-to-requires c).After-carried_row).loop-i in
+put_numbers-to-requires c = let loop = (turn (goal.at.put_numbers-to-requires c).After-carried_row).loop-i in
     let s = (turn (goal.at.put_numbers-to-requires c).After-carried_row).before.before.before in
     let a = s.args in
     let p = s.requires in
@@ -97,7 +96,7 @@ put_numbers-to-requires c =    let loop = (turn (goal.at.put_numbers-to-requires
     )
 
 pub loop-i-preserved : goal.loop-i-preserved
-loop-i-preserved c =    let loop = (turn (goal.at.loop-i-preserved c).After-carried_row).loop-i in
+loop-i-preserved c = let loop = (turn (goal.at.loop-i-preserved c).After-carried_row).loop-i in
     let s = (turn (goal.at.loop-i-preserved c).After-carried_row).before.before.before in
     let a = s.args in (
       omega (arith, c.loop-i-test.true),
@@ -108,7 +107,7 @@ loop-i-preserved c =    let loop = (turn (goal.at.loop-i-preserved c).After-carr
     )
 
 pub returns : goal.returns
-returns c =    let loop = c.loop-i in
+returns c = let loop = c.loop-i in
     let a = c.args in
     let all : loop.i ≡ a.count = omega (arith, c.loop-i-test.false) in
     subst (λ n. Put (joined n (texts (goal.at.returns c).Start)) a.at a.out.now loop.to loop.out) all loop.invariant.3

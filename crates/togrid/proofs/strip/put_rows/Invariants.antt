@@ -1,18 +1,9 @@
-use mathlib.Core.Path.{◌≡◌, refl, sym, ap, ◌∙◌, subst}
-use mathlib.Core.List.{List, ◌++◌}
-use Prim.Native.Nat.{ℕ, ◌+◌, ◌-◌, ◌*◌, ◌≤◌}
-use native.Mathlib.Omega.{arith}
-use borrow.Author.Rules.{rules}
-use lib.IntN.{ℤ}
-use lib.ListN.{length, take, drop, length-append, length-drop}
-use lib.Seq.{length-take-le}
+use mathlib.Core.Path.{◌≡◌}
+use Prim.Native.Nat.{◌+◌, ◌-◌, ◌*◌, ◌≤◌}
+use lib.ListN.{length}
 use Rattle.finite.specs.Range.{joined}
-use Rattle.finite.proofs.Joined.{joined-through}
 use Rattle.fields.specs.Put.{Put}
-use Rattle.fields.proofs.PutLaws.{put-none, put_next}
-use Rattle.togrid.specs.Strips.{Row, numbers_bytes, grid_row}
-use Rattle.togrid.proofs.TextLaws.{row-bytes, row-spelt}
-use Rattle.togrid.proofs.WindowLaws.{lent-front}
+use Rattle.togrid.specs.Strips.{grid_row}
 use Rattle.togrid.proofs.strip.put_rows.Given as goal
 
 abbrev pub invariant-loop-i : goal.invariant-loop-i
