@@ -12,8 +12,8 @@ note_of (contains f) = f.note
 
 -- "with none there, or a refused call, it says none and the part is empty"
 abbrev pub note_part : {A : Type 0} → Answer A → List ℕ → Note → NotePart
-note_part (gives a) file n = part_of file n
-note_part (gives a) file note = part_of file note
+note_part (refused n) file known = no_part
+note_part (gives a) file known = part_of file known
 
 -- The controller's answer and outputs, and the note.
 pub record Benched : Type 0 where
