@@ -1,12 +1,10 @@
 -- Bytes put after bytes.
 use mathlib.Core.Path.{◌≡◌, refl, sym, ap, ap₂, ◌∙◌, subst}
 use mathlib.Core.List.{List, [], ◌∷◌, ◌++◌, append_assoc, append-nil}
-use Prim.Native.Nat.{ℕ, ◌+◌, ◌-◌, ◌%◌, ◌≤◌, ◌<◌}
+use Prim.Native.Nat.{ℕ, ◌+◌, ◌%◌, ◌<◌}
 use native.Mathlib.Nat.{zero-add}
 use native.Mathlib.Numerals.{add-one}
 use native.Mathlib.Omega.{arith}
-use borrow.Rule.Slice.PartMut.{put_mid, drop_put}
-use Rattle.std.proofs.lemmas.List.{length-take-le, take_at}
 use lib.ListN.{length, take, drop, set, length-append, take-append-drop}
 use lib.Seq.{take-suc-set, drop-set-lt, drop-drop}
 use Rattle.finite.specs.Range.{joined}
@@ -34,22 +32,6 @@ put_byte b at o h = (
   ap (λ n. take n (set o at b)) (add-one at) ∙ take-suc-set o at b h,
   drop-set-lt (at + 1) o at b (omega arith),
 )
-
--- a text copied to the front of what stands from a position on
-pub put-copied : (text o : List ℕ) (at : ℕ) (p : List ℕ) → at + length text ≤ length o → p ≡ text
-    → Put text at o (at + length text) (put_mid at (at + length text - at) o p)
-put-copied text o at p h e = (refl, front, drop_put at (at + length text) o p (omega arith) h (omega (arith, ap length e)))
-  where
-    rest : List ℕ
-    rest = drop (at + length text - at) (drop at o)
-
-    sized : length (take at o ++ text) ≡ at + length text
-    sized = length-append (take at o) text ∙ ap (λ n. n + length text) (length-take-le at o (omega arith))
-
-    front : take (at + length text) (take at o ++ (p ++ rest)) ≡ take at o ++ text
-    front =
-        ap (take (at + length text)) (ap (λ l. take at o ++ (l ++ rest)) e ∙ sym (append_assoc (take at o) text rest))
-        ∙ take_at (take at o ++ text) rest (at + length text) sized
 
 -- "On success, tree output past the tree is untouched."
 pub put_front : (tree o : List ℕ) (r : ℕ) (p : List ℕ) → Put tree 0 o r p → p ≡ Calls.put tree o

@@ -79,9 +79,10 @@ pub fn put(text: &[u8], out: &mut [u8], at: usize) -> usize
     requires { at + length text.now ≤ length out.old }
     ensures { Put text.now at out.old result out.new }
 {
-    let end = at + text.len();
-    out[at..end].copy_from_slice(text);
-    end
+    for (i, b) in text.iter().enumerate() {
+        out[at + i] = *b;
+    }
+    at + text.len()
 }
 
 // Puts one byte.
