@@ -29,8 +29,9 @@ def read_crates() -> Crates:
     for line in (ROOT / "crates.txt").read_text(encoding="utf-8").splitlines():
         body, _, note = line.partition("#")
         if body.strip():
-            name, _, others = body.partition(":")
-            rests[name.strip()], notes[name.strip()] = others.split(), note.strip()
+            head, _, others = body.partition(":")
+            name = head.split()[0]  # of a static library 'staticlib' stands behind it
+            rests[name], notes[name] = others.split(), note.strip()
     toolchain = sorted({one for others in rests.values() for one in others} - set(rests))
     return Crates({**rests, **{name: [] for name in toolchain}}, notes, toolchain)
 
