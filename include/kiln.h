@@ -2,7 +2,7 @@
 
    Power draw over chamber temperature and climb rate is a surface of truncated hierarchical bicubic splines on a sheet
    of W by H cells. The calls make, load, refine, read and save tables of such a surface, and keep a window over the
-   last hours of a firing. `rt staticlib kiln` writes the library to target/staticlib/libkiln.a, for x86-64. It needs
+   last hours of a firing. `tools/archive.sh` writes the library to target/staticlib/libkiln.a, for x86-64. It needs
    memcpy and memset and nothing else.
 
    Headers

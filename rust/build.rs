@@ -1,5 +1,5 @@
 //! Links the library's archive, `libkiln.a`: the one in the folder that `KILN_LIB_DIR` names, else the one that
-//! `rt staticlib kiln` writes to `target/staticlib` beside this crate's folder.
+//! `tools/archive.sh` writes to `target/staticlib` beside this crate's folder.
 use std::env;
 use std::path::Path;
 
@@ -19,7 +19,7 @@ fn main() {
     println!("cargo:rustc-link-lib=static=kiln");
     // Documentation and checks do without the archive; where it is linked, its absence is rustc's error after this.
     if !archive.is_file() {
-        let cure = "run `rt staticlib kiln`, or name its folder in KILN_LIB_DIR";
+        let cure = "run `tools/archive.sh`, or name its folder in KILN_LIB_DIR";
         println!("cargo:warning={} is not there and nothing can be linked: {cure}", archive.display());
     }
 }

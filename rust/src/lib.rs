@@ -25,7 +25,7 @@
 //!
 //! # Linking
 //!
-//! The library is the archive `libkiln.a`, for x86-64, which `rt staticlib kiln` writes to `target/staticlib` in its
+//! The library is the archive `libkiln.a`, for x86-64, which `tools/archive.sh` writes to `target/staticlib` in its
 //! repository. It is looked for there, beside this crate's folder, or in the folder that the environment variable
 //! `KILN_LIB_DIR` names to cargo, best as a full path. It must be of this crate's version: one of another may link,
 //! and calls whose parameters differ are undefined. Documentation and `cargo check` do without it.

@@ -36,7 +36,7 @@ WATTS_BEFORE = 0xFFF2_3456_789A_BCDE
 
 def built(made: Path, *command: str) -> Path:
     """A file that the command makes; it is proved and compiled where the sources are newer."""
-    newest = max(one.stat().st_mtime for one in (ROOT / "crates").rglob("*"))
+    newest = max(one.stat().st_mtime for one in (ROOT / "crates").rglob("*") if "out" not in one.parts)
     if not made.exists() or made.stat().st_mtime < newest:
         subprocess.run(command, cwd=ROOT, check=True, stdout=subprocess.DEVNULL)
     return made
@@ -44,12 +44,12 @@ def built(made: Path, *command: str) -> Path:
 
 def archive() -> Path:
     """The compiled library."""
-    return built(ROOT / "target/staticlib/libkiln.a", "rt", "staticlib", "kiln")
+    return built(ROOT / "target/staticlib/libkiln.a", "tools/archive.sh")
 
 
 def corner_program() -> Path:
     """The compiled corner program."""
-    return built(ROOT / "target/bin/corners", "rt", "check", "corners")
+    return built(ROOT / "target/bin/corners", "tools/corners.sh")
 
 
 def shared() -> ctypes.CDLL:

@@ -52,7 +52,7 @@ def lines_of(files: Iterator[Tuple[str, bytes]]) -> Lines:
 
 def crates() -> List[str]:
     """The crates' names, lowest first."""
-    return re.findall(r"^(\w+):", (ROOT / "crates.txt").read_text(encoding="utf-8"), re.M)
+    return re.findall(r"^(\w+)(?: staticlib)?:", (ROOT / "crates.txt").read_text(encoding="utf-8"), re.M)
 
 
 def row(name: str, before: Counter, now: Counter) -> str:

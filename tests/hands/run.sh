@@ -19,8 +19,8 @@ done
 archive=target/staticlib/libkiln.a
 room=target/hands
 mkdir -p "$room"
-if [ ! -f "$archive" ] || [ -n "$(find crates -newer "$archive" -type f -print -quit)" ]; then
-  rt staticlib kiln >"$room/staticlib.log" 2>&1 || { cat "$room/staticlib.log"; exit 1; }
+if [ ! -f "$archive" ] || [ -n "$(find crates -name out -prune -o -newer "$archive" -type f -print -quit)" ]; then
+  tools/archive.sh
 fi
 
 needs=$(nm -u -P "$archive" | awk 'NF > 1 { print $1 }' | sort -u | paste -sd ' ')
