@@ -7,11 +7,13 @@ from __future__ import annotations
 from typing import Callable, Dict, List, NamedTuple
 
 from measure import ADDS, AT_LEVEL, BESIDE_WINDOWS, COMMIT, COMMIT_AT, ENQUIRE, ENQUIRE_AT, EXACT, FIGURES, LARGEST
-from measure import LARGEST_FILE, LOADS, MEASURED, READ, READ_GRID, READ_UNCOUNTED, READINGS, SLOPES, SLOPES_2
-from measure import UNREFINED, WATTS, WATTS_2, WRITES, Figures, beyond_on, calls_on, counted_on, level_at, stacked_on
-from measure import tables, where
+from measure import LARGEST_FILE, LOADS, MEASURED, OF_WINDOWS, READ, READ_GRID, READ_UNCOUNTED, READINGS, SLOPES
+from measure import SLOPES_2, UNREFINED, WATTS, WATTS_2, WRITES, Figures, beyond_on, calls_on, counted_on, level_at
+from measure import stacked_on, tables, where
 
 RATIO = 1.2
+# Of the calls of a window, which take some forty instructions but for a pass over many records.
+RATIO_OF_WINDOWS = 1.6
 CHECK = 150_000
 CHECK_UNREFINED = 64_000
 COMMITTING = 450_000
@@ -82,10 +84,11 @@ class Bar(NamedTuple):
     of: Callable[[Figures], Dict[str, float]]
 
 
-def ratios(figures: Figures) -> Dict[str, float]:
-    """The instructions over those of the C program, of each call on each table."""
-    return {where(call, table): ours.counts[call] / figures.plain[table].counts[call]
-            for table, ours in figures.library.items() for call in counted_on(table)}
+def ratios(of_windows: bool) -> Callable[[Figures], Dict[str, float]]:
+    """The instructions over those of the C program, of each call on each table, or of each call of a window."""
+    return lambda figures: {where(call, table): ours.counts[call] / figures.plain[table].counts[call]
+                            for table, ours in figures.library.items() for call in counted_on(table)
+                            if (call in OF_WINDOWS) == of_windows}
 
 
 def counts(table: str, *calls: str) -> Callable[[Figures], Dict[str, float]]:
@@ -180,7 +183,9 @@ def corners(figures: Figures) -> Dict[str, float]:
 
 BARS = {
     "ratio": Bar("instructions over those of the C program, of a call, and of an exact reading, of watts and slopes, "
-                 "of an enquiry and of a commit beyond the table check", RATIO, ratios),
+                 "of an enquiry and of a commit beyond the table check", RATIO, ratios(of_windows=False)),
+    "window ratio": Bar("instructions over those of the C program, of a call of a window", RATIO_OF_WINDOWS,
+                        ratios(of_windows=True)),
     "check": Bar(f"instructions of the table check, {LARGEST}", CHECK, counts(LARGEST, "table_cause")),
     "unrefined": Bar(f"instructions of the table check, {UNREFINED}", CHECK_UNREFINED,
                      counts(UNREFINED, "table_cause")),

@@ -85,10 +85,11 @@ def pushes() -> Iterator[Push]:
     for table in table_names():
         for call in calls_on(table):
             # So far past C an f64 reading takes 20 more than the exact one, watts and slopes 1.2 times an f64 reading,
-            # an enquiry more than a commit, and a record into a window 120, which is past their bars.
+            # an enquiry more than a commit, and a record into a window 160, which is past their bars.
             lower = ("watts",) if call == "watts" else ("slopes",) if call in SLOPES_AT else (
                 ("enquiry first",) if call in ENQUIRED else ("record",) if call in ADDED else ())
-            yield "ratio", named(call, table), partial(by_ratio, table, call, bars.RATIO), lower
+            name, bar = ("window ratio", bars.RATIO_OF_WINDOWS) if call in ADDED + FIGURED else ("ratio", bars.RATIO)
+            yield name, named(call, table), partial(by_ratio, table, call, bar), lower
         yield "grid stack", f"{MEASURED[FROM_GRID]}, {table}", partial(
             by_stack, table, FROM_GRID, bars.FROM_GRID_STACK), ()
         for call in set(stacked_on(table)) - {FROM_GRID}:

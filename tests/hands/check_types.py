@@ -116,7 +116,8 @@ RUST = Language(
       "slip_visited: usize, slip_active: *const usize, slip_length"),
      (r"(?<=slip_active: \*const usize)|(?<=slip_active: \*mut usize)", ", slip_active_len: usize")])
 LIBRARY = Language(
-    re.compile(r'#\[no_mangle\]\s*pub extern "C" fn (?P<name>kiln_\w+)\((?P<takes>[^()]*)\) -> (?P<returns>\w+)'),
+    re.compile(r'#\[unsafe\(no_mangle\)\]\s*'
+               r'pub extern "C" fn (?P<name>kiln_\w+)\((?P<takes>[^()]*)\) -> (?P<returns>\w+)'),
     re.compile(r"//[^\n]*"), library_parameter, {},
     [(r"\busize\b", "i64"), (r"\bi64\b", "usize"), (r"\bi64\b", "i32"), (r"\bi32\b", "i64"), (r"\bi32\b", "u32"),
      (r"\bu8\b", "i8"), (r"\bf64\b", "i64"), (r"&mut ", "&"), (r"&(?=\[)", "&mut "),
