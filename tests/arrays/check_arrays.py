@@ -1,4 +1,5 @@
-"""Counts the arrays of the step that subdivides a patch, in the MIR of it and of all that it calls (`rt mir`).
+"""Counts the arrays of the step that subdivides a patch, in the MIR of it and of all that it calls, as a check of the
+crate writes it (`rt check --generated`).
 
 The step takes a patch and two halves and gives a patch. Beside these two patches it may have one local of an array
 type, of which the result is a copy. What it calls may have none, passed, returned or worked in: each local there is a
@@ -6,13 +7,15 @@ number, a bool, a unit or a reference. Whole arrays are copied twice, into that 
 out.
 
 Run as: python3 tests/arrays/check_arrays.py; a line for each array too many, exit code 1 then. First the count itself
-is tried: on the MIR of a step that passes arrays by value, and with an array in the place of each other local.
+is tried: on the MIR of a step that passes arrays by value, with an array in the place of each other local, and with
+statements that write out, copy or pass an array, put into what the check wrote.
 """
 from __future__ import annotations
 
 import re
 import subprocess
 import sys
+import tempfile
 from collections import Counter
 from pathlib import Path
 from typing import Dict, Iterator, List, NamedTuple, Set, Union
@@ -27,6 +30,35 @@ CALLED = {"subdivide", "even", "odd"}
 SINGLE = ("tyInt", "tyBool", "tyUnit", "tyPtr", "tyRef")
 NUMBER = "(tyInt 64)"
 PATCH = f"(tyArray (tyArray {NUMBER} (lenLit 4)) (lenLit 4))"
+# The words that are counted by, each after that of the modules that a check writes; all others are the same. An array
+# as long as a parameter says is a repeated one too.
+WORDS = {
+    "◌∷◌": "lcons",
+    "[]": "lnil",
+    "ty_array": "tyArray",
+    "ty_bool": "tyBool",
+    "ty_int": "tyInt",
+    "ty_ptr": "tyPtr",
+    "ty_ref": "tyRef",
+    "ty_unit": "tyUnit",
+    "repeat_p": "repeat",
+    "rv_opd": "rvOpd",
+}
+# The modules whose words MIR is written in.
+SPELLING = ("mir.Syntax", "mathlib.Core.List")
+# Statements as such a module spells them, put into each function {}, and how the line starts that is to tell them. The
+# function beside those of the crate gives an array, and is called by its name and by the module that holds it.
+BESIDE, HOLDS = "by_value", f"Rattle.{CRATE}.proofs.by_value.Symbol"
+AT, ARRAY = "(Syntax.place 1 List.[])", "(Syntax.ty_array Syntax.ty_unit 4)"
+LENT = f"(Syntax.place 1 (List.◌∷◌ (Syntax.deref {ARRAY}) List.[]))"
+TRIED = {
+    f"Syntax.assign {AT} (Syntax.aggregate List.[])": "{}: writes out (aggregate ",
+    f"Syntax.assign {AT} (Syntax.repeat Syntax.opd_unit 4)": "{}: writes out (repeat ",
+    f"Syntax.lend_static {AT} {ARRAY} (Syntax.c_repeat Syntax.c_unit 4)": "{}: writes out (lend_static ",
+    f"Syntax.assign {AT} (Syntax.rv_opd (Syntax.copy {LENT}))": "{}: copies ",
+    f'Syntax.call (Syntax.fn₀ "{BESIDE}") List.[] {AT}': f"{BESIDE}: ",
+    f"Syntax.call Beside.name List.[] {AT}": f"{BESIDE}: ",
+}
 
 Term = Union[str, List["Term"]]
 
@@ -39,10 +71,17 @@ class Function(NamedTuple):
     body: Term
 
 
+class Generated(NamedTuple):
+    """What a check wrote of a crate: the text of each function's MIR, and its name by the module that holds it."""
+
+    texts: Dict[str, str]
+    names: Dict[str, str]
+
+
 def parsed(text: str) -> Term:
-    """The terms of a text: words, and lists in parentheses."""
+    """The terms of a text: words, commas, and lists in parentheses."""
     inside: List[List[Term]] = [[]]
-    for word in re.findall(r'"[^"]*"|[()]|[^\s()"]+', text):
+    for word in re.findall(r'"[^"]*"|[(),]|[^\s(),"]+', text):
         if word == "(":
             inside.append([])
         elif word == ")":
@@ -88,6 +127,64 @@ def functions_of(text: str) -> Dict[str, Function]:
     return found
 
 
+def parts_of(term: List[Term]) -> List[Term]:
+    """The parts of an application, or, after a comma, those of a tuple."""
+    if "," not in term:
+        return term
+    parts: List[List[Term]] = [[]]
+    for one in term:
+        if one == ",":
+            parts.append([])
+        else:
+            parts[-1].append(one)
+    return [",", *(part[0] if len(part) == 1 else part for part in parts if part)]
+
+
+def function_of(text: str, names: Dict[str, str]) -> Function:
+    """The function of a module of antt: a record, of types by name where it has both. Each name that is defined there
+    is replaced by what it stands for, until only words of MIR, numbers and functions are left; a name that is none of
+    these raises ValueError."""
+    uses = re.findall(r"^use (\S+?)(?: as (\S+))?$", text, re.M)
+    modules = {alias or path.split(".")[-1]: path for path, alias in uses}
+    defined = dict(re.findall(r"^(\S+) =\s(.*?)(?=\n\n|\Z)", text, re.M | re.S))
+
+    def word_of(word: str) -> Term:
+        module, _, own = word.partition(".")
+        if word in defined:
+            return read(defined[word])
+        if module in modules and modules[module] in SPELLING:
+            return WORDS.get(own, own[1:] if re.fullmatch(r"w\d+", own) else own)
+        if module in modules:
+            return ["fnRef", names.get(modules[module], modules[module])]
+        if not (word.isdigit() or word == ","):
+            raise ValueError(f"{word}: not a name of this module")
+        return word
+
+    def term_of(term: Term) -> Term:
+        if isinstance(term, str):
+            return word_of(term)
+        if term[0] == "fnRef":
+            return term
+        word, *rest = map(term_of, parts_of(term))
+        if word == "fn₀":
+            return rest[0]
+        return ["tyArray", rest[0], ["lenLit", rest[1]]] if word == "tyArray" else [word, *rest]
+
+    def read(words: str) -> Term:
+        # All that stands in quotes is the name of a function.
+        term = parsed(re.sub(r'"([^"]*)"', r"(fnRef \1)", words))
+        return term_of(term[0] if len(term) == 1 else term)
+
+    record = defined["by_name" if "by_name" in defined else "function"]
+    fields = dict(re.findall(r"^  (\w+) = ([^;]*);$", record, re.M))
+    kinds = [shown(kind) for _, kind, _ in each(read(fields["locals"]))]
+    return Function(kinds, int(fields["params"]), read(fields["body"]))
+
+
+def functions_in(told: Generated) -> Dict[str, Function]:
+    return {name: function_of(text, told.names) for name, text in told.texts.items()}
+
+
 def reached(functions: Dict[str, Function], name: str) -> List[str]:
     """A function and all that it calls, each once; one that is not there raises KeyError."""
     found, left = [], [name]
@@ -114,8 +211,10 @@ def copied(function: Function) -> List[str]:
 
 
 def written_out(function: Function) -> List[str]:
-    """A line for each array, struct or enum that a function writes out."""
-    return [f"writes out {shown(term)}" for word in ("aggregate", "repeat") for term in terms(function.body, word)]
+    """A line for each array, struct or enum that a function writes out, a constant that it lends included."""
+    made = [term for word in ("aggregate", "repeat") for term in terms(function.body, word)]
+    lent = [term for term in terms(function.body, "lend_static") if not single(shown(term[2]))]
+    return [f"writes out {shown(term)}" for term in (*made, *lent)]
 
 
 def faults(functions: Dict[str, Function]) -> List[str]:
@@ -141,19 +240,27 @@ def faults(functions: Dict[str, Function]) -> List[str]:
     return lines
 
 
-def trials(functions: Dict[str, Function]) -> List[str]:
-    """What the count does not tell: arrays of the step by value, and an array in the place of a single local of this
-    step or of what it calls."""
+def trials(generated: Generated) -> List[str]:
+    """What the count does not tell: arrays of the step by value, an array in the place of a single local of this step
+    or of what it calls, and a statement of those tried, put before the others of one of these."""
     lines = faults(functions_of(BY_VALUE.read_text(encoding="utf-8")))
     by_value = Counter(line.split(": ")[0] for line in lines)
     due = {f"{CRATE}::{name}": n for name, n in (("subdivide", 1), ("along", 15), ("column", 4), ("children", 5))}
     told = [] if by_value == due else [f"of the step by value is told {dict(by_value)}, should be {due}"]
+    functions = functions_in(generated)
     for name in reached(functions, STEP):
         one = functions[name]
         for at in (at for at, kind in enumerate(one.locals) if single(kind)):
             other = one._replace(locals=[*one.locals[:at], PATCH, *one.locals[at + 1 :]])
             if not any(line.startswith(f"{name}: ") for line in faults({**functions, name: other})):
                 told.append(f"{name}: an array in the place of local {at} is not told")
+        for statement, start in TRIED.items():
+            body = rf"  body = Syntax.seq ({statement}) \1;"
+            text = f"use {HOLDS} as Beside\n" + re.sub(r"(?m)^  body = (\S+);$", body, generated.texts[name])
+            other = function_of(text, {**generated.names, HOLDS: BESIDE})
+            lines = faults({**functions, name: other, BESIDE: Function([PATCH], 0, "return")})
+            if not any(line.startswith(start.format(name)) for line in lines):
+                told.append(f"{name}: {statement} is not told")
     return told
 
 
@@ -163,10 +270,34 @@ def called_elsewhere() -> Set[str]:
     return {name for file in sources for name in re.findall(rf"\b{CRATE}::(\w+)\(", file.read_text(encoding="utf-8"))}
 
 
+def generated_in(folder: Path) -> Generated:
+    """The MIR that a check wrote into a folder: that of a function, and its name, each in a module of its own."""
+    told = Generated({}, {})
+    proofs, contracts = folder / f"Rattle-{CRATE}-proofs", folder / f"Rattle-{CRATE}-specs/contracts"
+    for file in sorted(proofs.glob("**/Code/Mir.antt")):
+        own = file.parents[1].relative_to(proofs)
+        key = (contracts / own / "Key.antt").read_text(encoding="utf-8")
+        (name,) = re.findall(r'^symbol = "([^"]+)"$', key, re.M)
+        if name in told.texts:
+            raise ValueError(f"{name}: defined twice")
+        told.texts[name] = file.read_text(encoding="utf-8")
+        told.names[".".join(("Rattle", CRATE, "proofs", *own.parts, "Symbol"))] = name
+    return told
+
+
 def main() -> int:
-    told = subprocess.run(["rt", "mir", CRATE], cwd=ROOT, stdout=subprocess.PIPE, text=True, check=True).stdout
-    functions = functions_of(told[told.index("program ") :])
-    lines = [*trials(functions), *faults(functions)]
+    with tempfile.TemporaryDirectory() as folder:
+        check = ["rt", "check", "--generated", folder]
+        ran = subprocess.run(
+            check, cwd=ROOT / "crates" / CRATE, stdout=subprocess.PIPE, stderr=subprocess.STDOUT, text=True
+        )
+        generated = generated_in(Path(folder))
+    if STEP not in generated.texts:
+        sys.exit(f"{ran.stdout}{' '.join(check)}, in crates/{CRATE}, wrote no MIR of {STEP}")
+    functions = functions_in(generated)
+    lines = [*trials(generated), *faults(functions)]
+    if ran.returncode:
+        lines.append(f"rt check of {CRATE} ended with status {ran.returncode}")
     if called_elsewhere() != CALLED:
         lines.append(f"other crates call {', '.join(sorted(called_elsewhere()))} of {CRATE}, not those in CALLED alone")
     found = reached(functions, STEP)
