@@ -45,14 +45,13 @@ BracketedOfCalls =
 -- reading the table that the one before it left"
 
 -- Of a list of calls that were made one after the other, where `keeps c m` says that the call m kept its promise on
--- what stood before it, c, and `leaves c m` is what stands after it: each kept its promise, on what then stood. Here
--- that is a table; request Eleven says it of a window.
-unfoldable pub Kept : {C M : Type 0} → (C → M → Type 0) → (C → M → C) → C → List M → Type 0
+-- the table c, and `leaves c m` is the table after it: each kept its promise, on the table as it then stood.
+unfoldable pub Kept : {M : Type 0} → (Contents → M → Type 0) → (Contents → M → Contents) → Contents → List M → Type 0
 Kept keeps leaves c [] = Unit
 Kept keeps leaves c (m ∷ ms) = keeps c m × Kept keeps leaves (leaves c m) ms
 
--- What stands after the list.
-unfoldable pub standing : {C M : Type 0} → (C → M → C) → C → List M → C
+-- The table after the list.
+unfoldable pub standing : {M : Type 0} → (Contents → M → Contents) → Contents → List M → Contents
 standing leaves c [] = c
 standing leaves c (m ∷ ms) = standing leaves (leaves c m) ms
 

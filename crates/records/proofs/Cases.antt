@@ -3,7 +3,7 @@ use mathlib.Core.Path.{refl}
 use Rattle.finite.specs.Range.{table_from}
 use Rattle.surface.specs.Window.{record_outcome, folded, figures_outcome}
 use Rattle.answers.specs.declared.Recorded.TheVariants.{State, Refused}
-use Rattle.demands.specs.DemandThree.{Kept, standing}
+use Rattle.records.specs.Lists.{Kept, standing}
 use Rattle.records.specs.Run.{accepted}
 use Rattle.records.specs.Cases.{RunWrittenOut}
 

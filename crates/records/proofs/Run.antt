@@ -19,7 +19,7 @@ use Rattle.surface.specs.Window.{WindowState, window_cause, place_after, record_
 use Rattle.surface.specs.Window.{records_held, folded, Figures, figures_of, figures_outcome}
 use Rattle.answers.specs.Codes.{or_given, itself, missing_flag, or_held, FiguresTold}
 use Rattle.answers.proofs.CodeLaws.{told}
-use Rattle.demands.specs.DemandThree.{Kept, standing}
+use Rattle.records.specs.Lists.{Kept, standing}
 use Rattle.records.specs.Run.{Window, Call, state_left, Added, FiguresAsked, KilnAdded, KilnFiguresAsked}
 use Rattle.records.specs.Run.{figures_at}
 use Rattle.records.specs.Run.{accepted, within, last_ones, last_left, RefusedWith23, NotHeld, EveryRun}

@@ -11,7 +11,7 @@ use Rattle.answers.specs.declared.Recorded as recorded
 use Rattle.answers.specs.declared.Figures as figures
 use Rattle.answers.specs.Answers.{recorded_answer, figures_answer}
 use Rattle.answers.specs.Codes.{code_of, or_given, itself, missing_flag, or_held}
-use Rattle.demands.specs.DemandThree.{Kept}
+use Rattle.records.specs.Lists.{Kept}
 use Rattle.records.specs.Run.{Window, Call, state_left, Added, FiguresAsked, KilnAdded, KilnFiguresAsked}
 use Rattle.records.specs.Run.{figures_at, last_left}
 use Rattle.records.specs.Run.{SomeRun, RunOfCalls, RunOfLinked}

@@ -1,3 +1,4 @@
+pub mod Lists
 pub mod Extremes
 pub mod Run
 pub mod Cases

@@ -9,7 +9,7 @@ use Rattle.surface.specs.Window.{figures_of}
 use Rattle.answers.specs.declared.Recorded.{Recorded}
 use Rattle.answers.specs.declared.Figures as declared
 use Rattle.answers.specs.Answers.{recorded_answer, figures_answer}
-use Rattle.demands.specs.DemandThree.{Kept, standing}
+use Rattle.records.specs.Lists.{Kept, standing}
 use Rattle.demands.specs.WindowPromises.{RecordPromise, FiguresPromise, KilnRecordPromise, KilnFiguresPromise}
 
 -- ---- calls that were made

@@ -35,7 +35,6 @@ use Rattle.surface.proofs.RefusalLaws.{sent, slice-or-nothing, table-or-nothing}
 use Rattle.surface.proofs.SlopesGiven.{slopes-given}
 use Rattle.surface.proofs.FileRefusals.{file-refusals, bench-refusals, save-refusals}
 use Rattle.surface.proofs.GridRefusals.{write-grid-refusals, read-grid-refusals}
-use Rattle.surface.proofs.WindowRefusals.{record-refusals, figures-refusals}
 
 -- ---- the calls
 
@@ -187,6 +186,4 @@ refusals =
       save = save-refusals;
       write_grid = write-grid-refusals;
       read_grid = read-grid-refusals;
-      add_record = record-refusals;
-      window_figures = figures-refusals;
     }

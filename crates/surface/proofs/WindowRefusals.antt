@@ -10,6 +10,7 @@ use Rattle.surface.specs.Table.{cause}
 use Rattle.surface.specs.Window.{WindowState, window_cause, record_cause, new_place, new_state, record_outcome}
 use Rattle.surface.specs.Window.{records_held, figures_of, figures_outcome}
 use Rattle.surface.specs.Demands.{RefusesWith, WritesSliceOrNothing}
+use Rattle.surface.specs.WindowDemands.{WindowRefusals}
 use Rattle.surface.proofs.RefusalLaws.{OneOf, one-or, one-cause, sent, slice-or-nothing}
 
 one-window : (js : List ℕ) → OneOf 22 js → (n : ℕ) (s : WindowState) → OneOf (window_cause n s) js
@@ -32,3 +33,6 @@ unfolding figures_outcome
 figures-refusals window s =
     let js : List ℕ = 22 ∷ [] in
     sent (window_cause (length window) s) (figures_of (records_held window s)) js (one-window js refl (length window) s)
+
+pub window-refusals : WindowRefusals
+window-refusals = record { add_record = record-refusals; window_figures = figures-refusals }

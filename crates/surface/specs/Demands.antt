@@ -22,7 +22,6 @@ use Rattle.surface.specs.TableFile.{file_outcome}
 use Rattle.surface.specs.BenchLoading.{Benched, bench_outcome}
 use Rattle.surface.specs.Saving.{save_outcome}
 use Rattle.surface.specs.Grid.{write_grid_outcome, grid_contents, Converted, OverTree, read_grid_outcome}
-use Rattle.surface.specs.Window.{WindowState, record_outcome, figures_outcome}
 
 -- ---- demand 1: "a call gives its full result, or one refusal number from document 01 and writes nothing"
 
@@ -42,8 +41,8 @@ pub record WritesAllOrNothing {A : Type 0} (numbers : List ℕ) (o : Written A) 
   pub refusal : (n : ℕ) → o.result ≡ refused n → (o.tree ≡ tree_out) × (o.numbers ≡ numbers_out)
   pub lengths : (length o.tree ≡ length tree_out) × (length o.numbers ≡ length numbers_out)
 
--- The same of a call that writes to one lent slice: set and a new record to one place of it, activity and the
--- conversion of a grid to all of it, saving and the writing of a grid to its front.
+-- The same of a call that writes to one lent slice: set to one place of it, activity and the conversion of a grid to
+-- all of it, saving and the writing of a grid to its front.
 pub record WritesSliceOrNothing {A B : Type 0} (numbers : List ℕ) (o : Done A B) (lent : List B) : Type 0 where
   pub number : RefusesWith numbers o.result
   pub refusal : (n : ℕ) → o.result ≡ refused n → o.after ≡ lent
@@ -97,9 +96,6 @@ pub record Refusals : Type 0 where
   pub read_grid : (file t : List ℕ) (out : List ℤ) (converted : Converted) → OverTree (grid_contents file) t converted
       → WritesSliceOrNothing (1 ∷ 2 ∷ 4 ∷ 12 ∷ 13 ∷ 14 ∷ 15 ∷ 16 ∷ 21 ∷ [])
       (read_grid_outcome (grid_contents file) t converted out) out
-  pub add_record : (window : List ℤ) (s : WindowState) (watts : ℤ)
-      → WritesSliceOrNothing (22 ∷ 23 ∷ []) (record_outcome window s watts) window
-  pub window_figures : (window : List ℤ) (s : WindowState) → RefusesWith (22 ∷ []) (figures_outcome window s)
 
 -- ---- demand 2: "A function is active exactly when the selection rule of source document 003 makes it so."
 

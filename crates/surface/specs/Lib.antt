@@ -18,6 +18,7 @@ pub mod Saving
 pub mod Grid
 pub mod Window
 pub mod Demands
+pub mod WindowDemands
 pub mod Costs
 pub mod Derivatives
 pub mod Slips
