@@ -7,10 +7,10 @@
 
    Headers
      There are seven, in one folder. This one includes kiln_sizes.h, the fixed numbers and the lengths of slices,
-     kiln_refusal.h, the refusal numbers and their words, kiln_grid.h, the two calls for plain bicubic grids, and
-     kiln_window.h, the two calls for a window over records. kiln_table.h has the calls for tables again, with a table,
-     a box and a slip in structs, and kiln_arrow.h an arrow for the display. The calls are proved; the static inline
-     functions in the headers are plain C, which is tested and not proved.
+     kiln_refusal.h, the refusal numbers 1 to 21 and their words, kiln_grid.h, the two calls for plain bicubic grids,
+     and kiln_window.h, the two calls for a window over records and their numbers, 22 and 23. kiln_table.h has the
+     calls for tables again, with a table, a box and a slip in structs, and kiln_arrow.h an arrow for the display. The
+     calls are proved; the static inline functions in the headers are plain C, which is tested and not proved.
 
    Answers
      Every call returns 0 when it is done, else the refusal number of the cause that applies, the lowest where several

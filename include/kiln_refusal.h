@@ -30,9 +30,7 @@ enum kiln_refusal {
   KILN_FILE_OUTPUT_SHORT = 18,
   KILN_SLIP = 19,
   KILN_FILE_COUNT = 20,
-  KILN_NO_TABLE = 21,
-  KILN_WINDOW = 22,
-  KILN_RECORD = 23
+  KILN_NO_TABLE = 21
 };
 
 /* What a call returned, in words; for every number, never NULL. */
@@ -60,8 +58,6 @@ static inline const char *kiln_refusal_words(uint8_t number) {
     case KILN_SLIP: return "the slip is not the one that this table gives for the slip's own box and level";
     case KILN_FILE_COUNT: return "count in a file differs from the tree's";
     case KILN_NO_TABLE: return "no acceptable table over that tree has the grid's readings";
-    case KILN_WINDOW: return "window of 0 or above 1,440 places, or more held than places, or the oldest outside them";
-    case KILN_RECORD: return "new record beyond 32,000 in size";
     default: return "a cause that this version has no words for";
   }
 }

@@ -17,6 +17,12 @@
 
    The total of minute records in watts is in watt minutes: divided by 60 it is watt hours.
 
+   Refusals of both calls
+     22   a window of 0 or above 1,440 places, or more held than places, or the oldest outside them
+     23   a new record beyond 32,000 in size, after 22
+   kiln_refusal.h has no names for these two numbers, and kiln_refusal_words tells neither: it has for both the words
+   of a number that it does not know.
+
    Both calls are new in 0.10.0, and no other call moved: a program that keeps no window need not change. */
 #ifndef KILN_WINDOW_H
 #define KILN_WINDOW_H

@@ -1,6 +1,5 @@
-//! The calls as the archive has them, and a safe function over each. All unsafe code of the crate is here and in the
-//! file beneath, ffi/window.rs, and neither knows the crate's other files: slices and numbers go in, numbers or the
-//! number of a refusal come out.
+//! The calls as the archive has them, and a safe function over each. All unsafe code of the crate is here, and nothing
+//! here knows the crate's other files: slices and numbers go in, numbers or the number of a refusal come out.
 //!
 //! What the library promises of each call, for every input: it ends; it reads no more than the slices and values that
 //! it is lent, a slice as a pointer and a length in elements; it writes no more than the slices and values that are
@@ -13,9 +12,6 @@
 #![allow(unsafe_code)]
 
 use std::num::NonZeroU8;
-
-mod window;
-pub use window::{add_record, window_figures};
 
 extern "C" {
     fn kiln_table_cause(
@@ -87,6 +83,11 @@ extern "C" {
     fn kiln_read_grid(
         grid: *const u8, grid_len: usize, tree: *const u8, tree_len: usize, numbers_out: *mut i64,
         numbers_out_len: usize, w: *mut usize, h: *mut usize,
+    ) -> u8;
+    fn kiln_add_record(window: *mut i32, window_len: usize, held: *mut usize, oldest: *mut usize, watts: i64) -> u8;
+    fn kiln_window_figures(
+        window: *const i32, window_len: usize, held: usize, oldest: usize, total: *mut i64, missing: *mut u8,
+        least: *mut i32, greatest: *mut i32,
     ) -> u8;
 }
 
@@ -227,21 +228,10 @@ pub fn watts([w, h]: [usize; 2], tree: &[u8], numbers: &[i64], [u, v]: [usize; 2
 /// The watts, the slope along u and the slope along v.
 pub fn slopes([w, h]: [usize; 2], tree: &[u8], numbers: &[i64], [u, v]: [usize; 2]) -> Answer<(f64, f64, f64)> {
     let (mut watts, mut along_u, mut along_v) = (0.0, 0.0, 0.0);
+    let (tree, tree_len, numbers_len) = (tree.as_ptr(), tree.len(), numbers.len());
     // SAFETY: reads two slices and writes three local values.
     let n = unsafe {
-        kiln_slopes(
-            w,
-            h,
-            tree.as_ptr(),
-            tree.len(),
-            numbers.as_ptr(),
-            numbers.len(),
-            u,
-            v,
-            &mut watts,
-            &mut along_u,
-            &mut along_v,
-        )
+        kiln_slopes(w, h, tree, tree_len, numbers.as_ptr(), numbers_len, u, v, &mut watts, &mut along_u, &mut along_v)
     };
     unless_refused(n, (watts, along_u, along_v))
 }
@@ -381,6 +371,26 @@ pub fn read_grid(grid: &[u8], tree: &[u8], numbers_out: &mut [i64]) -> Answer<(u
         )
     };
     unless_refused(n, (w, h))
+}
+
+/// Adds a record; `held` and `oldest` are read and written, the only values of any call that are both.
+pub fn add_record(window: &mut [i32], held: &mut usize, oldest: &mut usize, watts: i64) -> Answer<()> {
+    // SAFETY: reads and writes a slice and two values that are borrowed for writing, so apart from each other.
+    let n = unsafe { kiln_add_record(window.as_mut_ptr(), window.len(), held, oldest, watts) };
+    unless_refused(n, ())
+}
+
+/// The total, 1 where least and greatest are missing and 0 where they are not, the least and the greatest.
+pub type Figures = (i64, u8, i32, i32);
+
+/// Writes to `figures`, but not the last two where these are missing.
+pub fn window_figures(window: &[i32], held: usize, oldest: usize, figures: &mut Figures) -> Answer<()> {
+    let (total, missing, least, greatest) = figures;
+    // SAFETY: reads a slice that is borrowed for reading; writes four values that are borrowed for writing, so apart
+    // from it and from each other.
+    let n =
+        unsafe { kiln_window_figures(window.as_ptr(), window.len(), held, oldest, total, missing, least, greatest) };
+    unless_refused(n, ())
 }
 
 #[cfg(test)]

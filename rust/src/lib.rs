@@ -4,7 +4,7 @@
 //! Power draw over chamber temperature and climb rate is a surface of truncated hierarchical bicubic splines on a
 //! sheet of W by H cells, each side 1 to 8. A [`Table`] is such a surface: a sheet, a tree of regions and
 //! coefficients. This crate is a safe layer over the calls of a proved library, which decide every answer and every
-//! refusal; `include/kiln_refusal.h` says what each number means.
+//! refusal; `include/kiln_refusal.h` says what each number means, and `include/kiln_window.h` what 22 and 23 mean.
 //!
 //! ```
 //! use kiln::{Point, QuarterBox, Table};

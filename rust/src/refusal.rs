@@ -43,8 +43,8 @@ macro_rules! refusals {
             ///
             /// assert_eq!(Refusal::of(12), Some(Refusal::FileEnds));
             /// assert_eq!(Refusal::of(0), None);
-            /// assert_eq!(Refusal::of(24), None); // no refusal of this version
-            /// assert!((1..=23).all(|n| Refusal::of(n).map(Refusal::number) == Some(n)));
+            /// assert_eq!(Refusal::of(22), None); // no refusal of this version
+            /// assert!((1..=21).all(|n| Refusal::of(n).map(Refusal::number) == Some(n)));
             /// ```
             pub fn of(number: u8) -> Option<Refusal> {
                 match number {
@@ -53,7 +53,7 @@ macro_rules! refusals {
                 }
             }
 
-            /// The refusal number, 1 to 23, or whatever a newer library gave.
+            /// The refusal number, 1 to 21, or whatever a newer library gave.
             ///
             /// ```
             /// use kiln::Refusal;
@@ -63,8 +63,6 @@ macro_rules! refusals {
             /// assert_eq!(Refusal::Slip.number(), 19);
             /// assert_eq!(Refusal::FileCount.number(), 20);
             /// assert_eq!(Refusal::NoTable.number(), 21);
-            /// assert_eq!(Refusal::Window.number(), 22);
-            /// assert_eq!(Refusal::Record.number(), 23);
             /// ```
             pub fn number(self) -> u8 {
                 match self {
@@ -110,8 +108,6 @@ refusals! {
     19 Slip "the slip is not the one that this table gives for the slip's own box and level"
     20 FileCount "count in a file differs from the tree's"
     21 NoTable "no acceptable table over that tree has the grid's readings"
-    22 Window "window of 0 or above 1,440 places, or more held than places, or the oldest outside them"
-    23 Record "new record beyond 32,000 in size"
 }
 
 /// The refusal of any number that a call returned, [`Refusal::Unknown`] where it has no name here.
@@ -152,8 +148,8 @@ mod tests {
     use std::num::NonZeroU8;
 
     // The first column of document 01's table of causes, in the order of its numbers, and document 02's words for 18
-    // to 23.
-    const CAUSES: [&str; 23] = [
+    // to 21.
+    const CAUSES: [&str; 21] = [
         "a side of 0 or above 8",
         "tree not of the form above",
         "coefficient slice not of the total length",
@@ -175,8 +171,6 @@ mod tests {
         "the slip is not the one that this table gives for the slip's own box and level",
         "a count differs from the tree's",
         "no acceptable table over that tree has those readings",
-        "a window of 0 or above 1,440 places, or more held than places, or the oldest outside them",
-        "a new record beyond 32,000 in size",
     ];
 
     fn of_any(number: u8) -> Refusal {
@@ -189,8 +183,6 @@ mod tests {
             // Away from the documents' text, "above", "a count" and "those" say too little.
             let words = words.replace("form above", "form of a region tree").replace("a count", "count in a file");
             let words = words.replace("those readings", "the grid's readings");
-            // As most of the words, those of 22 and 23 go without their article.
-            let words = words.replace("a window", "window").replace("a new record", "new record");
             assert_eq!(Refusal::of(number).map(Refusal::words), Some(&words[..]));
             assert_eq!(of_any(number).to_string(), format!("refused {number}: {words}"));
             assert_eq!(format!("{:?}", of_any(number)), format!("refused {number}: {words}"));
@@ -199,7 +191,7 @@ mod tests {
 
     #[test]
     fn a_number_without_a_name_is_an_error_value() {
-        for number in 24..=u8::MAX {
+        for number in 22..=u8::MAX {
             let refusal = of_any(number);
             assert_eq!(Refusal::of(number), None);
             assert_eq!(refusal, Refusal::Unknown { number });

@@ -87,8 +87,8 @@ pub const GRID_BYTES: usize = 22_453;
 /// use kiln::{Refusal, Window, WindowState, WINDOW_PLACES};
 ///
 /// assert_eq!(WINDOW_PLACES, 24 * 60);
-/// let cause = |places| Window::over(&mut vec![0; places], WindowState::default()).err();
-/// assert_eq!([cause(WINDOW_PLACES), cause(WINDOW_PLACES + 1)], [None, Some(Refusal::Window)]);
+/// let cause = |places| Window::over(&mut vec![0; places], WindowState::default()).err().map(Refusal::number);
+/// assert_eq!([cause(WINDOW_PLACES), cause(WINDOW_PLACES + 1)], [None, Some(22)]);
 /// ```
 pub const WINDOW_PLACES: usize = 1_440;
 
@@ -100,7 +100,8 @@ pub const WINDOW_PLACES: usize = 1_440;
 /// let mut records = [0; 2];
 /// let mut window = Window::over(&mut records, WindowState::default())?;
 /// assert_eq!([window.add(GREATEST_RECORD), window.add(-GREATEST_RECORD)], [Ok(()); 2]);
-/// assert_eq!([window.add(GREATEST_RECORD + 1), window.add(-GREATEST_RECORD - 1)], [Err(Refusal::Record); 2]);
+/// let beyond = [GREATEST_RECORD + 1, -GREATEST_RECORD - 1];
+/// assert_eq!(beyond.map(|watts| window.add(watts).map_err(Refusal::number)), [Err(23); 2]);
 /// # Ok::<(), Refusal>(())
 /// ```
 pub const GREATEST_RECORD: i64 = 32_000;

@@ -75,7 +75,7 @@ impl<'a> Window<'a> {
     /// that it had, with the slice as it was left. The slice is not written.
     ///
     /// Refused: a slice of no places or of above 1,440, a state with more held than places or with the oldest outside
-    /// them, also where none is held.
+    /// them, also where none is held. The refusal's number is 22, a [`Refusal::Unknown`].
     ///
     /// ```
     /// use kiln::{Refusal, Window, WindowFigures, WindowState};
@@ -94,11 +94,11 @@ impl<'a> Window<'a> {
     /// assert_eq!(window.figures(), WindowFigures { total: 1_200, least: Some(300), greatest: Some(500) });
     ///
     /// let cause = |places, held, oldest| {
-    ///     Window::over(&mut [0; 1_441][..places], WindowState { held, oldest }).err()
+    ///     Window::over(&mut [0; 1_441][..places], WindowState { held, oldest }).err().map(Refusal::number)
     /// };
     /// assert_eq!([cause(1, 0, 0), cause(1_440, 1_440, 1_439)], [None; 2]);
-    /// assert_eq!([cause(0, 0, 0), cause(1_441, 0, 0)], [Some(Refusal::Window); 2]);
-    /// assert_eq!([cause(3, 4, 0), cause(3, 3, 3), cause(3, 0, 3)], [Some(Refusal::Window); 3]);
+    /// assert_eq!([cause(0, 0, 0), cause(1_441, 0, 0)], [Some(22); 2]);
+    /// assert_eq!([cause(3, 4, 0), cause(3, 3, 3), cause(3, 0, 3)], [Some(22); 3]);
     /// # Ok::<(), Refusal>(())
     /// ```
     pub fn over(records: &'a mut [i32], state: WindowState) -> Result<Window<'a>, Refusal> {
@@ -110,7 +110,7 @@ impl<'a> Window<'a> {
     /// Adds a record of whole watts, as [`Table::display`](crate::Table::display) gives them.
     ///
     /// Refused: a record beyond [`GREATEST_RECORD`](crate::GREATEST_RECORD), 32,000, in size. The window is then as it
-    /// was.
+    /// was. The refusal's number is 23, a [`Refusal::Unknown`].
     ///
     /// ```
     /// use kiln::{Refusal, Window, WindowState};
@@ -128,7 +128,8 @@ impl<'a> Window<'a> {
     /// window.add(32_000)?;
     /// assert_eq!((window.records(), window.state()), (&[200, -300, 32_000][..], WindowState { held: 3, oldest: 0 }));
     ///
-    /// assert_eq!([window.add(32_001), window.add(i64::MIN)], [Err(Refusal::Record); 2]);
+    /// let refused = [32_001, i64::MIN].map(|watts| window.add(watts).map_err(Refusal::number));
+    /// assert_eq!(refused, [Err(23); 2]);
     /// assert_eq!((window.records(), window.state()), (&[200, -300, 32_000][..], WindowState { held: 3, oldest: 0 }));
     /// assert_eq!(window.figures().total, 200 - 300 + 32_000);
     /// # Ok::<(), Refusal>(())

@@ -10,6 +10,11 @@ fn watts(minute: usize) -> i64 {
     (minute as i64 * 7_919 + 3) * (minute as i64 + 11) % (2 * GREATEST_RECORD + 1) - GREATEST_RECORD
 }
 
+// What a call gives, or the number of its refusal: the crate has no names for 22 and 23.
+fn number_of<T>(given: Result<T, Refusal>) -> Result<T, u8> {
+    given.map_err(Refusal::number)
+}
+
 // "equal the sum, least and greatest of the last ones accepted, as many as the window has places, or all if fewer".
 fn due(accepted: &[i64], places: usize) -> WindowFigures {
     let last = &accepted[accepted.len().saturating_sub(places)..];
@@ -31,7 +36,7 @@ fn the_figures_are_those_of_the_last_records_accepted() {
             for minute in 0..2 * places + 5 {
                 // Refused records in between, runs of them among these.
                 for beyond in BEYOND.iter().take(minute * minute % 11 % 4) {
-                    assert_eq!(window.add(*beyond), Err(Refusal::Record));
+                    assert_eq!(number_of(window.add(*beyond)), Err(23));
                 }
                 window.add(watts(minute)).unwrap();
                 accepted.push(watts(minute));
@@ -55,10 +60,10 @@ fn each_record_is_written_to_its_place_and_to_no_other() {
                 // The places are taken one after another, from the one that was named on.
                 kept[(oldest + minute) % places] = watts(minute) as i32;
                 window.add(watts(minute)).unwrap();
-                let (added, refused) = (minute + 1, window.add(BEYOND[minute % 6]));
+                let (added, refused) = (minute + 1, number_of(window.add(BEYOND[minute % 6])));
                 let state =
                     WindowState { held: added.min(places), oldest: (oldest + added.saturating_sub(places)) % places };
-                assert_eq!((window.state(), window.records(), refused), (state, &kept[..], Err(Refusal::Record)));
+                assert_eq!((window.state(), window.records(), refused), (state, &kept[..], Err(23)));
             }
             assert_eq!(lent, kept);
         }
@@ -93,10 +98,10 @@ fn a_window_is_refused_for_its_length_or_its_state_and_left() {
             for oldest in [0, 1, 2, 4, 5, 1_439, 1_440, usize::MAX] {
                 let state = WindowState { held, oldest };
                 let good = (1..=1_440).contains(&places) && held <= places && oldest < places;
-                let judged = Window::over(&mut lent[..places], state).map(|window| window.figures());
+                let judged = number_of(Window::over(&mut lent[..places], state).map(|window| window.figures()));
                 let seven = if held > 0 { Some(7) } else { None };
                 let figures = WindowFigures { total: 7 * held as i64, least: seven, greatest: seven };
-                assert_eq!(judged, if good { Ok(figures) } else { Err(Refusal::Window) }, "{places} {state:?}");
+                assert_eq!(judged, if good { Ok(figures) } else { Err(22) }, "{places} {state:?}");
             }
         }
     }
@@ -109,7 +114,7 @@ fn a_record_is_taken_up_to_32000_in_size() {
     let mut lent = [7; 5];
     let mut window = Window::over(&mut lent, WindowState { held: 0, oldest: 4 }).unwrap();
     for beyond in BEYOND.into_iter().chain([(1 << 32) + 5, (1 << 31) - 1, 1 << 31, -(1 << 31), 1 << 16, -1 << 33]) {
-        assert_eq!(window.add(beyond), Err(Refusal::Record), "{beyond}");
+        assert_eq!(number_of(window.add(beyond)), Err(23), "{beyond}");
     }
     assert_eq!((window.records(), window.state()), (&[7; 5][..], WindowState { held: 0, oldest: 4 }));
     for taken in [32_000, -32_000, 31_999, 0] {

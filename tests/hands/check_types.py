@@ -136,13 +136,12 @@ LIBRARY = Language(
       "slip_visited: usize, slip_active: &[usize; 4], slip_length")])
 
 
-def rust_sources() -> List[Path]:
-    """The files of the Rust crate that declare calls: ffi.rs and those beneath it, and no other."""
+def rust_source() -> Path:
+    """The file of the Rust crate that declares the calls."""
     found = [one for one in sorted((ROOT / "rust/src").rglob("*.rs")) if "fn kiln_" in one.read_text(encoding="utf-8")]
-    others = [str(one) for one in found if one.name != "ffi.rs" and one.parent.name != "ffi"]
-    if others:
-        raise SystemExit(f"types: {', '.join(others)} of the Rust crate declares calls beside ffi.rs")
-    return found
+    if len(found) != 1:
+        raise SystemExit(f"types: {len(found)} files of the Rust crate declare the calls")
+    return found[0]
 
 
 def told(name: str, call: Call) -> str:
@@ -181,7 +180,7 @@ def exported(archive: str) -> List[str]:
 
 
 def main(archive: str) -> int:
-    sources = [("include/", C, sorted((ROOT / "include").glob("*.h"))), ("the Rust crate", RUST, rust_sources()),
+    sources = [("include/", C, sorted((ROOT / "include").glob("*.h"))), ("the Rust crate", RUST, [rust_source()]),
                ("the library", LIBRARY, sorted((ROOT / "crates/kiln/src").glob("*.rt")))]
     bare = {whose: "\n".join(language.bare(path.read_text(encoding="utf-8")) for path in paths)
             for whose, language, paths in sources}

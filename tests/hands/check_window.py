@@ -17,7 +17,7 @@ from typing import List, Sequence, Set, Tuple
 from check_dot import files, off
 from expected import ROOT
 from runs import GREATEST_SIZE, Run, differing, in_rust, misused, unwritten
-from rust_words import refusal_words
+from rust_words import NO_WORDS, refusal_words
 
 import calls
 import samples
@@ -155,6 +155,8 @@ def main(programs: List[str]) -> int:
         due, among = runs(Path(room))
         numbers = {run.status for run in due}
         if rust:
+            # It says of itself that it has no words for 22.
+            due = [run._replace(text=run.text.replace(refusal_words()[255], NO_WORDS)) for run in due]
             due = [same for run in due for same in in_rust(run, NEEDED, NEEDED_IN_RUST)]
         wrong = differing(programs, due)
         wrong += 0 if rust else unwritten(programs, "window", str(ROOT / "tables/bench-s.table"), "2", "1", "1")

@@ -12,7 +12,7 @@ CRATE = Path(__file__).resolve().parents[2] / "rust"
 # One refusal in the crate's list: its number, its name and its words.
 REFUSAL = re.compile(r'^\s*(\d+)\s+\w+\s+"([^"\\]+)"\s*$', re.M)
 # The numbers of documents 01 and 02 that calls give so far.
-NUMBERS = [*range(1, 24)]
+NUMBERS = [*range(1, 22)]
 # Its words for a number that is not in the list, where it has any. C's are the same less 'of the crate'.
 OTHER = re.compile(r'\bUnknown\b[^\n]*=> "([^"\\]+)"')
 NO_WORDS = "a cause that this version of the crate has no words for"

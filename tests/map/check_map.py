@@ -26,7 +26,7 @@ LINES = {
     "Wrong programs of the full-grid dialect": ("must-fail", "refused by"),
     "Wrong programs of the window over a firing": ("must-fail", "refused by"),
 }
-REFUSALS = range(1, 24)
+REFUSALS = range(1, 22)
 
 
 def declares(text: str, name: str, kind: str) -> bool:
