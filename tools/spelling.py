@@ -19,7 +19,8 @@ NAME = r"[^\W\d][\w'-]*"
 WORD = re.compile(rf"(?<![\w'.·-])(?:◌)?({NAME})(?:◌)?(?![\w'-])")
 BEHIND_DOT = re.compile(rf"(?<=\.)({NAME})(?![\w'-])")
 DECLARED = re.compile(
-    rf"(?m)^[ \t]*(?:(?:unfoldable|abbrev|pub|data|record|opaque|instance) )*(◌?{NAME}◌?)((?: \{{[^}}\n]*\}})*) :(?!=)"
+    rf"(?m)^[ \t]*(?:(?:unfoldable|abbrev|pub|data|record|opaque|instance) )*"
+    rf"(◌?{NAME}◌?)((?: \{{[^}}\n]*\}})*) :(?!=)"
 )
 USE = re.compile(r"\buse ([^\s;{]+)(\{[^;}]*\})?", re.M)
 ARGUMENT = re.compile(r"(?<![\w'·.-])([a-z]{3,}(?:[A-Z][a-z]+)+[₀-₉]?)(?![\w'-])")

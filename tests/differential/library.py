@@ -36,7 +36,8 @@ WATTS_BEFORE = 0xFFF2_3456_789A_BCDE
 
 def built(made: Path, *command: str) -> Path:
     """A file that the command makes; it is proved and compiled where the sources are newer."""
-    newest = max(one.stat().st_mtime for one in (ROOT / "crates").rglob("*") if "out" not in one.parts)
+    crates = ROOT / "crates"
+    newest = max(one.stat().st_mtime for one in crates.rglob("*") if "out" not in one.relative_to(crates).parts)
     if not made.exists() or made.stat().st_mtime < newest:
         subprocess.run(command, cwd=ROOT, check=True, stdout=subprocess.DEVNULL)
     return made

@@ -18,7 +18,7 @@ returns-then-found-tag c = let a = c.args in
 
 pub returns-then-wrong : goal.returns-then-wrong
 returns-then-wrong c = let a = c.args in (
-  wrong-length a.tag a.low a.high a.file.now a.at c.if-left-lt-HEAD.false c.if-found-tag.false
+  wrong-length a.tag a.low a.high a.file.now a.at c.if-left-lt-HEAD.false (omega arith)
       c.length_at-n.ensures.0 (not-true _ (sym c.outside-wrong.ensures ∙ c.if-wrong.true)),
   tt,
 )
@@ -31,7 +31,7 @@ in_bounds c = not-false _ (sym c.outside-wrong.ensures ∙ c.if-wrong.false)
 
 pub returns-then-left-n : goal.returns-then-left-n
 returns-then-left-n c = let a = c.args in (
-  cut-body a.tag a.low a.high a.file.now a.at c.if-left-lt-HEAD.false c.if-found-tag.false
+  cut-body a.tag a.low a.high a.file.now a.at c.if-left-lt-HEAD.false (omega arith)
       c.length_at-n.ensures.0 (in_bounds (goal.at.returns-then-left-n c).Else-wrong) c.if-left-n.true,
   tt,
 )
