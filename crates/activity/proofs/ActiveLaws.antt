@@ -32,24 +32,22 @@ alike e word a small = go (a % 2) refl
     go zero h = even_place e word word a small h
     go (suc d) h = odd_place e word word a small (omega (arith, mod-lt a (zero-lt-suc 1)))
 
-pub all-inside : (W H L b : ℕ) (lev : ℕ → ℕ → ℕ) → W ≤ 8 → L ≡ 0
-    → RegionRow W H L b L lev (placed (eighths L) (words 18446744073709551615 18446744073709551615))
-all-inside W H L b lev hW coarse a ha =
-    let fits : mark_place (eighths L) a < 64 =
-    omega (arith, place-fits W L a hW (omega arith) ha, eighths-some L) in
+pub all-inside : (W H L b : ℕ) (lev : ℕ → ℕ → ℕ) → W ≤ 8 → L ≤ 3
+    → RegionRow W H L b 0 lev (placed (eighths L) (words 18446744073709551615 18446744073709551615))
+all-inside W H L b lev hW hL a ha =
+    let fits : mark_place (eighths L) a < 64 = omega (arith, place-fits W L a hW hL ha, eighths-some L) in
     ap (leb 1) (alike (eighths L) 18446744073709551615 a (eighths-le L) ∙ bit-ones 64 (mark_place (eighths L) a) fits)
-    ∙ sym (le-leb L (least_under W H lev L a b) (omega arith))
+    ∙ sym (le-leb 0 (least_under W H lev L a b) (omega arith))
 
 least-small : (W H : ℕ) (lev : ℕ → ℕ → ℕ) (L a b : ℕ) → least_under W H lev L a b ≤ 3
 unfolding least_under
 least-small W H lev L a b = least-le-top 3 (quarters W) _
 
-pub none-beyond : (W H L b : ℕ) (lev : ℕ → ℕ → ℕ) → L ≡ 3
-    → RegionRow W H L b (L + 1) lev (placed (eighths L) (words 0 0))
-none-beyond W H L b lev fine a ha =
+pub none-beyond : (W H L b : ℕ) (lev : ℕ → ℕ → ℕ) → RegionRow W H L b 4 lev (placed (eighths L) (words 0 0))
+none-beyond W H L b lev a ha =
     ap (leb 1)
     (alike (eighths L) 0 a (eighths-le L) ∙ bit_past 0 0 (mark_place (eighths L) a) (omega arith) (omega arith))
-    ∙ sym (lt-leb (L + 1) (least_under W H lev L a b) (omega (arith, least-small W H lev L a b)))
+    ∙ sym (lt-leb 4 (least_under W H lev L a b) (omega (arith, least-small W H lev L a b)))
 
 -- ---- own region and not the next
 

@@ -1,5 +1,5 @@
 -- Laws of words of bits: words taken together, runs of bits, and the places beside the sheet.
-use mathlib.Core.Path.{◌≡◌, refl, sym, ap, ap₂, ◌∙◌}
+use mathlib.Core.Path.{◌≡◌, refl, ap, ap₂, ◌∙◌}
 use mathlib.Core.Bool.{Bool, true, cond, ◌||◌}
 use mathlib.Core.List.{List}
 use mathlib.Core.Logic.{◌↔◌}
@@ -7,13 +7,16 @@ use Prim.Native.Nat.{ℕ, zero, suc, ◌+◌, ◌-◌, ◌*◌, ◌/◌, ◌^◌
 use native.Mathlib.Nat.{add-zero, le_trans}
 use native.Mathlib.Decide.{dec_lt}
 use native.Mathlib.Omega.{arith}
-use lib.Bits.{bit_and, bit_or, bit_xor, differ}
+use lib.Bits.{bit_and, bit_or}
 use lib.Dec.{eqb, leb, ltb}
-use lib.ListN.{get_or}
+use lib.ListN.{get_or, take, drop}
+use lib.Seq.{get_or-take, get_or-drop}
 use borrow.Author.Tests.{eqb-true, lt-ltb, le-ltb, le-leb, lt-leb}
+use mir.Syntax.{w64}
+use Rattle.std.proofs.lemmas.Nat.Bits.{bit_at_not}
 use Rattle.finite.specs.Bits.{bit}
 use Rattle.finite.specs.Range.{least, every}
-use Rattle.finite.proofs.Bits.{bit-small, bit-and, bit-or, bit-xor, bit-shr, bit-shl}
+use Rattle.finite.proofs.Bits.{bit-small, bit-and, bit-or, bit-shr, bit-shl, bit_past}
 use Rattle.finite.proofs.Tests.{every_true}
 use Rattle.finite.proofs.Minima.{least-le-top, least-le, le-least}
 use Rattle.surface.specs.Sheet.{quarters}
@@ -41,16 +44,19 @@ all_ones n f = (λ h k l. le_trans h (least-le 1 n f k l), λ h. le-least 1 n 1 
 
 -- ---- words taken together
 
-pub common-more : (rows : List ℕ) (from i word : ℕ) → from ≤ i → Common rows from i word
-    → Common rows from (i + 1) (bit_and word (get_or rows i 0))
-common-more rows from i word h common q l =
+-- the word at place n of those from .. to beside the n before it
+pub common-more : (rows : List ℕ) (from to n word : ℕ) → n < to - from → Common rows from (from + n) word
+    → Common rows from (from + (n + 1)) (bit_and word (get_or (take (to - from) (drop from rows)) n 0))
+common-more rows from to n word h common q l =
     let f : ℕ → ℕ = λ k. bit (get_or rows (from + k) 0) q in
-    let last : f (i - from) ≡ bit (get_or rows i 0) q = ap (λ j. bit (get_or rows j 0) q) (omega arith) in
-    let size : i - from + 1 ≡ i + 1 - from = omega arith in
-    bit-and word (get_or rows i 0) q
-    ∙ ap₂ min (common q l) (sym last)
-    ∙ least_more (i - from) f
-    ∙ ap (λ n. least 1 n f) size
+    let here : get_or (take (to - from) (drop from rows)) n 0 ≡ get_or rows (from + n) 0 =
+    get_or-take (to - from) (drop from rows) n 0 h ∙ get_or-drop from rows n 0 in
+    let before : from + n - from ≡ n = omega arith in
+    let size : n + 1 ≡ from + (n + 1) - from = omega arith in
+    bit-and word _ q
+    ∙ ap₂ min (common q l ∙ ap (λ k. least 1 k f) before) (ap (λ w. bit w q) here)
+    ∙ least_more n f
+    ∙ ap (λ k. least 1 k f) size
 
 -- ---- runs
 
@@ -67,26 +73,19 @@ run-twice word n run runs k =
 
 -- ---- the bits of a word that another lacks
 
-pub without-bit : (word other : ℕ) → Without word other (bit_xor word (bit_and word other))
-without-bit word other k =
-    bit-xor word (bit_and word other) k
-    ∙ ap (differ (bit word k)) (bit-and word other k)
-    ∙ digit (bit word k) (bit other k) (bit-small word k) (bit-small other k)
+pub without-bit : (word other : ℕ) → word < 2 ^ 64 → other < 2 ^ 64 → Without word other (bit_and word (2 ^ 64 - 1 - other))
+unfolding bit
+without-bit word other fits other-fits k = bit-and word (2 ^ 64 - 1 - other) k ∙ go (dec_lt k 64)
   where
-    digit : (x y : ℕ) → x < 2 → y < 2 → differ x (min x y) ≡ x - y
-    digit zero zero hx hy = refl
-    digit zero (suc zero) hx hy = refl
-    digit (suc zero) zero hx hy = refl
-    digit (suc zero) (suc zero) hx hy = refl
-    digit zero (suc (suc y)) hx hy = absurd (omega arith)
-    digit (suc zero) (suc (suc y)) hx hy = absurd (omega arith)
-    digit (suc (suc x)) y hx hy = absurd (omega arith)
+    go : Dec (k < 64) → min (bit word k) (bit (2 ^ 64 - 1 - other) k) ≡ bit word k - bit other k
+    go (yes l) = omega (arith, bit_at_not w64 other k other-fits l, bit-small word k, bit-small other k)
+    go (no l) = omega (arith, bit_past word 64 k fits (omega arith))
 
 -- ---- the places beside the sheet
 
 -- all places but those of a sheet of W cells, with 16 places before it
 abbrev edges : ℕ → ℕ
-edges W = bit_xor 18446744073709551615 (4294967295 / 2 ^ (32 - 4 * W) * 65536)
+edges W = 18446744073709551615 - 4294967295 / 2 ^ (32 - 4 * W) * 65536
 
 -- place k lies beside a sheet of W cells
 abbrev beside : ℕ → ℕ → Bool

@@ -2,10 +2,10 @@
 use mathlib.Core.Path.{◌≡◌, refl, sym, ap, ap₂, ◌∙◌}
 use Prim.Native.Nat.{ℕ, zero, suc, ◌+◌, ◌-◌, ◌*◌, ◌/◌, ◌%◌, ◌^◌, ◌≤◌, ◌<◌}
 use native.Mathlib.Nat.{add_comm, add-mul, zero-mul, one-mul, suc-mul, mul_right_comm, mul-div_cancel}
-use native.Mathlib.Nat.{mod-lt, lt_of_le_of_lt}
+use native.Mathlib.Nat.{mod-lt}
 use native.Mathlib.Omega.{arith}
-use lib.Bits.{bit_and, and_le_l, and_zero_r, and_block, and_lt, and_mask}
-use lib.Count.{ones, ones-le, ones_cat}
+use lib.Bits.{bit_and, and_zero_r, and_block, and_lt, and_mask}
+use lib.Count.{ones, ones_cat}
 use lib.Pow.{shl_exact, pow_pos, pow_mono, ones_split, split, mod-mod-pow}
 use Rattle.finite.specs.Range.{count, total}
 use Rattle.finite.proofs.Tests.{count-cong, total-cong}
@@ -50,9 +50,6 @@ low-one r = rw (and_mask r 1) (go (r % 2) (mod-lt r (omega arith)))
     go zero h = refl
     go (suc zero) h = refl
     go (suc (suc d)) h = absurd (omega arith)
-
-pub ones-few : (x y : ℕ) → x < 2 ^ 64 → ones (bit_and x y) ≤ 64
-ones-few x y h = ones-le 64 (bit_and x y) (lt_of_le_of_lt (and_le_l x y) h)
 
 -- at spread places: that of the lowest, and those of the places after it
 ones-next : (e n x : ℕ) → 1 ≤ e

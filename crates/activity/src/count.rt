@@ -29,8 +29,8 @@ fn front(n: usize, e: usize) -> super::Marks
 fn count_row(marks: super::Marks, first: super::Marks) -> usize
     ensures { (n e : ℕ) → 1 ≤ e → Front e n first → result ≡ count n (marked e marks) }
 {
-    let even = u64::count_ones(marks.even & first.even);
-    let odd = u64::count_ones(marks.odd & first.odd);
+    let even = (marks.even & first.even).count_ones();
+    let odd = (marks.odd & first.odd).count_ones();
     (even + odd) as usize
 }
 
@@ -44,11 +44,8 @@ pub fn active_count(rows: &[u32; 96], w: usize, h: usize, level: usize) -> usize
     let m = coefficients::functions(h, level);
     let first = front(n, e);
     let mut found: usize = 0;
-    let mut b = 0;
-    while b < m {
-        let marks = super::active_row(rows, w, h, level, b);
-        found += count_row(marks, first);
-        b += 1;
+    for b in 0..m {
+        found += count_row(super::active_row(rows, w, h, level, b), first);
     }
     found
 }

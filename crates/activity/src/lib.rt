@@ -37,10 +37,8 @@ pub fn window_of(n: usize, level: usize, a: usize) -> Window
     let e = eighths(level);
     let at = a * e;
     let before = 3 * e;
-    let low = if before < at { at - before } else { 0 };
-    let reach = at + e;
-    let edge = 8 * n;
-    let high = if reach < edge { reach } else { edge };
+    let low = at.saturating_sub(before);
+    let high = (at + e).min(8 * n);
     Window {
         low: low / 2,
         high: (high + 1) / 2,
@@ -80,11 +78,9 @@ fn common(rows: &[u32; 96], from: usize, to: usize) -> u32
     requires { (from ≤ to) × (to ≤ 96) }
     ensures { Common rows.now from to result }
 {
-    let mut word = 4294967295u32;
-    let mut i = from;
-    while i < to {
-        word = word & rows[i];
-        i += 1;
+    let mut word = u32::MAX;
+    for row in &rows[from..to] {
+        word &= *row;
     }
     word
 }
@@ -95,8 +91,8 @@ fn padded(word: u32, w: usize) -> u64
     requires { w ≤ 8 }
     ensures { PaddedTo w word result }
 {
-    let sheet = 4294967295u64 >> (32 - 4 * w);
-    (word as u64 * 65536) | (18446744073709551615 ^ (sheet * 65536))
+    let sheet = (u32::MAX as u64) >> (32 - 4 * w);
+    (word as u64 * 65536) | !(sheet * 65536)
 }
 
 // Bit k of the result is set where the 2 e bits from k on are, e the eighths of a level's cell: runs of 2 bits at
@@ -138,7 +134,8 @@ fn region_words(rows: &[u32; 96], w: usize, level: usize, window: Window, region
     Marks { even, odd }
 }
 
-// Whether function a is marked in such words, passed apart, since a choice between fields would go through memory.
+// Whether function a is marked in such words, which stand otherwise than those of `is_marked`; they are passed apart,
+// since a choice between fields would go through memory.
 fn stands(even: u64, odd: u64, a: usize, e: usize) -> bool
     requires { (a * e ≤ 88) × (e ≤ 8) }
     ensures { result ≡ marked e (placed e (record { even = even; odd = odd })) a }
@@ -181,34 +178,25 @@ pub fn region_row(
 fn without(word: u64, other: u64) -> u64
     ensures { Without word other result }
 {
-    word ^ (word & other)
+    word & !other
 }
 
-// Of such a row the functions whose cut support lies in the region of their own level, in such words: at level 0 all.
-fn inside(rows: &[u32; 96], w: usize, level: usize, window: Window) -> Marks
-    requires { (w ≤ 8) × (level ≤ 3) × (window.low ≤ window.high) × (window.high ≤ 32) × Nested rows.now }
+// Of such a row the functions whose cut support lies in the region of a level, in such words: of level 0 all, past
+// level 3 none.
+fn in_region(rows: &[u32; 96], w: usize, level: usize, window: Window, region: usize) -> Marks
+    requires { (w ≤ 8) × (level ≤ 3) × (window.low ≤ window.high) × (window.high ≤ 32) × (region ≤ 4)
+        × Nested rows.now }
     ensures { (H b : ℕ) → H ≤ 8 → Over H level b window
-        → RegionRow w H level b level (levels_of rows.now) (placed (Sheet.eighths level) result) }
+        → RegionRow w H level b region (levels_of rows.now) (placed (Sheet.eighths level) result) }
 {
-    if level == 0 {
-        return Marks {
-            even: 18446744073709551615,
-            odd: 18446744073709551615,
-        };
+    match region {
+        0 => Marks {
+            even: u64::MAX,
+            odd: u64::MAX,
+        },
+        4 => Marks { even: 0, odd: 0 },
+        _ => region_words(rows, w, level, window, region),
     }
-    region_words(rows, w, level, window, level)
-}
-
-// Those whose cut support lies in the region of the level after it: at level 3 none.
-fn beyond(rows: &[u32; 96], w: usize, level: usize, window: Window) -> Marks
-    requires { (w ≤ 8) × (level ≤ 3) × (window.low ≤ window.high) × (window.high ≤ 32) × Nested rows.now }
-    ensures { (H b : ℕ) → H ≤ 8 → Over H level b window
-        → RegionRow w H level b (level + 1) (levels_of rows.now) (placed (Sheet.eighths level) result) }
-{
-    if level == 3 {
-        return Marks { even: 0, odd: 0 };
-    }
-    region_words(rows, w, level, window, level + 1)
 }
 
 // The active functions of row b of a level.
@@ -217,8 +205,8 @@ pub fn active_row(rows: &[u32; 96], w: usize, h: usize, level: usize, b: usize) 
     ensures { ActiveRow w h level b (levels_of rows.now) result }
 {
     let window = window_of(h, level, b);
-    let own = inside(rows, w, level, window);
-    let finer = beyond(rows, w, level, window);
+    let own = in_region(rows, w, level, window, level);
+    let finer = in_region(rows, w, level, window, level + 1);
     let active = Marks {
         even: without(own.even, finer.even),
         odd: without(own.odd, finer.odd),

@@ -9,13 +9,10 @@ fn mark_row(row: &mut [u8], marks: super::Marks, e: usize)
     requires { e ≤ 8 }
     ensures { row.new ≡ row_marks e marks (length row.old) }
 {
-    let n = row.len();
     let mut m = marks;
-    let mut a = 0;
-    while a < n {
-        row[a] = (m.even % 2) as u8;
+    for mark in row.iter_mut() {
+        *mark = (m.even % 2) as u8;
         m = super::next(m, e);
-        a += 1;
     }
 }
 
@@ -34,12 +31,10 @@ pub fn mark_level(
     ensures { out.new ≡ level_marks w h level rows.now }
 {
     let e = super::eighths(level);
-    let mut b = 0;
-    while b < m {
+    for b in 0..m {
         let marks = super::active_row(rows, w, h, level, b);
         let from = b * n;
         let to = from + n;
         mark_row(&mut out[from..to], marks, e);
-        b += 1;
     }
 }

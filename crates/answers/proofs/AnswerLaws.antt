@@ -1,35 +1,66 @@
 -- Laws of answers and lent buffers that the calls share.
-use mathlib.Core.Path.{◌≡◌, refl, ap, subst, ◌∙◌}
+use Rattle.std.specs.Prelude.{refl}
+use mathlib.Core.Path.{◌≡◌, ap, subst, ◌∙◌}
 use mathlib.Core.List.{List}
 use Prim.Native.Nat.{ℕ, zero, suc}
 use lib.IntN.{ℤ}
 use Rattle.surface.specs.Table.{◌or_else◌}
 use Rattle.surface.specs.Calls.{Answer, refused, gives, answer, afterwards, put, written, TableMeets, done, SliceMeets}
+use Rattle.answers.specs.declared.Refusal as Causes
+use Rattle.answers.specs.declared.Refusal.{Refusal}
+use Rattle.answers.specs.Refusals.{number}
+
+-- no refusal has the number 0
+pub number-positive : (e : Refusal) → ¬ (number e ≡ 0)
+number-positive Causes.TheVariants.Side h = cc
+number-positive Causes.TheVariants.Tree h = cc
+number-positive Causes.TheVariants.NumbersLength h = cc
+number-positive Causes.TheVariants.CoefficientLimit h = cc
+number-positive Causes.TheVariants.PassiveNotZero h = cc
+number-positive Causes.TheVariants.Point h = cc
+number-positive Causes.TheVariants.Box h = cc
+number-positive Causes.TheVariants.Level h = cc
+number-positive Causes.TheVariants.Function h = cc
+number-positive Causes.TheVariants.NumberLimit h = cc
+number-positive Causes.TheVariants.Tariff h = cc
+number-positive Causes.TheVariants.FileEnds h = cc
+number-positive Causes.TheVariants.FileTag h = cc
+number-positive Causes.TheVariants.FileFieldLength h = cc
+number-positive Causes.TheVariants.FileGoesOn h = cc
+number-positive Causes.TheVariants.OutputLength h = cc
+number-positive Causes.TheVariants.TreeOutputShort h = cc
+number-positive Causes.TheVariants.FileOutputShort h = cc
+number-positive Causes.TheVariants.Slip h = cc
+number-positive Causes.TheVariants.FileCount h = cc
+number-positive Causes.TheVariants.NoTable h = cc
+number-positive Causes.TheVariants.Window h = cc
+number-positive Causes.TheVariants.Record h = cc
 
 -- a cause is the refusal, and the buffer keeps its contents
-refusal : {A : Type 0} (n : ℕ) (a : A) → (n ≡ 0 → ⊥) → refused n ≡ answer n a
+refusal : {A : Type 0} (n : ℕ) (a : A) → ¬ (n ≡ 0) → refused n ≡ answer n a
 refusal zero a h = absurd (h refl)
 refusal (suc n) a h = refl
 
-pub refused-with : {A : Type 0} {c k : ℕ} → k ≡ c → (k ≡ 0 → ⊥) → (a : A) → refused k ≡ answer c a
-refused-with {k} e h a = refusal k a h ∙ ap (λ c. answer c a) e
+pub refused-with : {A : Type 0} {c : ℕ} (e : Refusal) → number e ≡ c → (a : A) → refused (number e) ≡ answer c a
+refused-with e q a = refusal (number e) a (number-positive e) ∙ ap (λ c. answer c a) q
 
 pub gives-with : {A : Type 0} {c : ℕ} {a x : A} → 0 ≡ c → x ≡ a → gives x ≡ answer c a
 gives-with {a} e p = ap gives p ∙ ap (λ c. answer c a) e
 
-kept : {A : Type 0} (n : ℕ) (old new : A) → (n ≡ 0 → ⊥) → old ≡ afterwards n old new
+kept : {A : Type 0} (n : ℕ) (old new : A) → ¬ (n ≡ 0) → old ≡ afterwards n old new
 kept zero old new h = absurd (h refl)
 kept (suc n) old new h = refl
 
 -- ---- a call that writes a table, or a slice: refused with the cause and nothing written, or done
 
-pub table-refused : {A : Type 0} {c k : ℕ} → k ≡ c → (k ≡ 0 → ⊥) → (a : A) (tree : List ℕ) (numbers : List ℤ)
+pub table-refused : {A : Type 0} {c : ℕ} (e : Refusal) → number e ≡ c → (a : A) (tree : List ℕ) (numbers : List ℤ)
     (tree_out : List ℕ) (numbers_out : List ℤ)
-    → TableMeets (written c a tree numbers tree_out numbers_out) (refused k) tree_out numbers_out
-table-refused {c} {k} e h a tree numbers tree_out numbers_out = (
-  refused-with e h a,
-  kept k tree_out (put tree tree_out) h ∙ ap (λ c. afterwards c tree_out (put tree tree_out)) e,
-  kept k numbers_out numbers h ∙ ap (λ c. afterwards c numbers_out numbers) e,
+    → TableMeets (written c a tree numbers tree_out numbers_out) (refused (number e)) tree_out numbers_out
+table-refused {c} e q a tree numbers tree_out numbers_out = (
+  refused-with e q a,
+  kept (number e) tree_out (put tree tree_out) (number-positive e)
+      ∙ ap (λ c. afterwards c tree_out (put tree tree_out)) q,
+  kept (number e) numbers_out numbers (number-positive e) ∙ ap (λ c. afterwards c numbers_out numbers) q,
 )
 
 pub table_done : {A : Type 0} {c : ℕ} {a x : A} {numbers after : List ℤ} → 0 ≡ c → x ≡ a → after ≡ numbers
@@ -41,11 +72,11 @@ table_done {a} {numbers} e p q tree tree_out t numbers_out r = (
   q ∙ ap (λ c. afterwards c numbers_out numbers) e,
 )
 
-pub slice-refused : {A B : Type 0} {c k : ℕ} → k ≡ c → (k ≡ 0 → ⊥) → (a : A) (new lent : List B)
-    → SliceMeets (done c a new lent) (refused k) lent
-slice-refused {k} e h a new lent = (
-  refused-with e h a,
-  kept k lent new h ∙ ap (λ c. afterwards c lent new) e,
+pub slice-refused : {A B : Type 0} {c : ℕ} (e : Refusal) → number e ≡ c → (a : A) (new lent : List B)
+    → SliceMeets (done c a new lent) (refused (number e)) lent
+slice-refused e q a new lent = (
+  refused-with e q a,
+  kept (number e) lent new (number-positive e) ∙ ap (λ c. afterwards c lent new) q,
 )
 
 pub slice-done : {A B : Type 0} {c : ℕ} {a x : A} {new after : List B} → 0 ≡ c → x ≡ a → after ≡ new → (lent : List B)

@@ -1,34 +1,57 @@
-// What the calls answer: their result, or one refusal number of document 01.
+// What the calls answer: their result, or one refusal of document 01 or 02.
 #![tactic(auto)]
 
-// A call that answers only whether it was done.
-#[derive(Clone, Copy)]
-pub enum Outcome {
-    Done,
-    Refused(u8),
+ghost use Rattle.std.specs.Prelude.{◌≡◌};
+ghost use Rattle.answers.specs.Refusals.{number};
+
+// Why a call is refused. Each case stands for the number of its cause.
+#[derive(Clone, Copy, PartialEq, Eq)]
+pub enum Refusal {
+    Side = 1,
+    Tree = 2,
+    NumbersLength = 3,
+    CoefficientLimit = 4,
+    PassiveNotZero = 5,
+    Point = 6,
+    Box = 7,
+    Level = 8,
+    Function = 9,
+    NumberLimit = 10,
+    Tariff = 11,
+    FileEnds = 12,
+    FileTag = 13,
+    FileFieldLength = 14,
+    FileGoesOn = 15,
+    OutputLength = 16,
+    TreeOutputShort = 17,
+    FileOutputShort = 18,
+    Slip = 19,
+    FileCount = 20,
+    NoTable = 21,
+    Window = 22,
+    Record = 23,
 }
 
-// A call that writes a tree, or a file, returns its length.
-#[derive(Clone, Copy)]
-pub enum Length {
-    Bytes(usize),
-    Refused(u8),
+impl Refusal {
+    // The number of the cause, as other languages get it.
+    pub fn number(self) -> u8
+        ensures { result ≡ number self }
+    {
+        self as u8
+    }
 }
 
 // The least and the greatest level under a box, with the number of tree nodes visited.
 #[derive(Clone, Copy)]
-pub enum Least {
-    Levels {
-        least: u8,
-        greatest: u8,
-        visited: usize,
-    },
-    Refused(u8),
+pub struct LevelsUnder {
+    pub least: u8,
+    pub greatest: u8,
+    pub visited: usize,
 }
 
 // Document 02: "a slip: box, level, new tree length, active functions of each level over the new tree, and the tree
 // nodes that one least-level call over the box will visit in the new tree".
-#[derive(Clone, Copy)]
+#[derive(Clone, Copy, PartialEq, Eq)]
 pub struct Slip {
     pub u0: usize,
     pub v0: usize,
@@ -43,27 +66,6 @@ pub struct Slip {
     pub visited: usize,
 }
 
-// The enquiry gives a slip.
-#[derive(Clone, Copy)]
-pub enum Enquiry {
-    Given(Slip),
-    Refused(u8),
-}
-
-// The exact reading: a numerator over D.
-#[derive(Clone, Copy)]
-pub enum Exact {
-    Numerator(i64),
-    Refused(u8),
-}
-
-// Document 01: either watts as an f64 or a refusal number.
-#[derive(Clone, Copy)]
-pub enum Reading {
-    Watts(f64),
-    Refused(u8),
-}
-
 // Document 02: "One record holds the watts and both slopes as f64", slopes in watts per eighth of a cell.
 #[derive(Clone, Copy)]
 pub struct WattsAndSlopes {
@@ -72,54 +74,33 @@ pub struct WattsAndSlopes {
     pub along_v: f64,
 }
 
-// That record, or a refusal number.
+// What file reading loads: the tree's length and the sides of the sheet.
 #[derive(Clone, Copy)]
-pub enum Slopes {
-    Given(WattsAndSlopes),
-    Refused(u8),
+pub struct Loaded {
+    pub length: usize,
+    pub w: usize,
+    pub h: usize,
 }
 
-// The display: whole watts.
-#[derive(Clone, Copy)]
-pub enum Display {
-    Watts(i64),
-    Refused(u8),
-}
-
-// Cost per hour, in hundredths of a cent.
-#[derive(Clone, Copy)]
-pub enum Cost {
-    Hundredths(usize),
-    Refused(u8),
-}
-
-// File reading returns the tree's length and the sides of the sheet.
-#[derive(Clone, Copy)]
-pub enum File {
-    Loaded { length: usize, w: usize, h: usize },
-    Refused(u8),
-}
-
-// Document 02: "whether a note stands there", and the part of the file that it is, which is empty where none stands.
+// The part of a file that its note is.
 #[derive(Clone, Copy)]
 pub struct Note {
-    pub stands: bool,
     pub offset: usize,
     pub length: usize,
 }
 
-// The bench loader returns what file reading does, and the note.
+// The bench loader returns what file reading does, and "whether a note stands there".
 #[derive(Clone, Copy)]
 pub struct Bench {
-    pub file: File,
-    pub note: Note,
+    pub loaded: Loaded,
+    pub note: Option<Note>,
 }
 
 // A grid converted over a tree gives the sides of its sheet.
 #[derive(Clone, Copy)]
-pub enum Sheet {
-    Sides { w: usize, h: usize },
-    Refused(u8),
+pub struct Sheet {
+    pub w: usize,
+    pub h: usize,
 }
 
 // Document 02: "the state is the number held and the place of the oldest".
@@ -129,22 +110,17 @@ pub struct WindowState {
     pub oldest: usize,
 }
 
-// A new record gives the new state.
+// The least and the greatest of the records held.
 #[derive(Clone, Copy)]
-pub enum Recorded {
-    State(WindowState),
-    Refused(u8),
+pub struct Extremes {
+    pub least: i32,
+    pub greatest: i32,
 }
 
 // Document 02: "the total, least and greatest of the records held. ... With none held the total is 0 and the other two
 // are marked missing."
 #[derive(Clone, Copy)]
-pub enum Figures {
-    Held {
-        total: i64,
-        least: i32,
-        greatest: i32,
-    },
-    Missing,
-    Refused(u8),
+pub struct Figures {
+    pub total: i64,
+    pub extremes: Option<Extremes>,
 }

@@ -1,6 +1,6 @@
 -- Places in a box; a square that has one shares area with the box, and one that lies in the box has no other.
-use mathlib.Core.Bool.{Bool, true, false, ◌&&◌}
-use mathlib.Core.Path.{◌≡◌, sym, ap, ◌∙◌}
+use mathlib.Core.Bool.{true}
+use mathlib.Core.Path.{◌≡◌}
 use Prim.Native.Nat.{ℕ, ◌+◌, ◌≤◌, ◌<◌}
 use native.Mathlib.Omega.{arith}
 use lib.Dec.{leb}
@@ -35,12 +35,3 @@ box-holds b x y side q r e lu hu lv hv =
     along lo hi x q e l u =
         let es = both (leb lo x) (leb (x + side) hi) e in
         between-intro lo hi q (omega (arith, leb-true lo x es.0)) (omega (arith, leb-true (x + side) hi es.1))
-
--- ---- two tests joined by `&&`
-
--- an `&&` whose first test x holds is its second, y; and is x if that fails
-pub and_second : {x y a b : Bool} → x ≡ a → x ≡ true → y ≡ b → y ≡ (a && b)
-and_second {b = b} p t q = q ∙ ap (λ c. c && b) (sym t ∙ p)
-
-pub and_first : (b : Bool) {x a : Bool} → x ≡ a → x ≡ false → x ≡ (a && b)
-and_first b p f = f ∙ ap (λ c. c && b) (sym f ∙ p)

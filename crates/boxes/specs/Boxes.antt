@@ -1,5 +1,5 @@
 -- Boxes of the code as the boxes of document 01, the squares that share area with one, and those that lie in it.
-use Rattle.std.specs.Prelude.{Bool, ◌&&◌, List, ℕ, ◌+◌, ◌≤◌, ◌<◌, leb, ltb, get_or}
+use Rattle.std.specs.Prelude.{Bool, ◌&&◌, ℕ, ◌+◌, ◌≤◌, ◌<◌, leb, ltb}
 use Rattle.surface.specs.Sheet as sheet
 use Rattle.surface.specs.Sheet.{quarters}
 use Rattle.boxes.specs.declared.Box.{Box}
@@ -7,10 +7,6 @@ use Rattle.boxes.specs.declared.Box.{Box}
 -- the box of document 01 that a box of the code is
 abbrev pub box_of : Box → sheet.Box
 box_of b = record { u0 = b.u0; v0 = b.v0; u1 = b.u1; v1 = b.v1 }
-
--- the box of the corners u0, v0, u1, v1
-abbrev pub box_at : List ℕ → sheet.Box
-box_at c = record { u0 = get_or c 0 0; v0 = get_or c 1 0; u1 = get_or c 2 0; v1 = get_or c 3 0 }
 
 -- a box with area that lies in the sheet
 abbrev pub InSheet : ℕ → ℕ → sheet.Box → Type 0

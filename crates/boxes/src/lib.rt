@@ -4,7 +4,7 @@
 
 ghost use Rattle.std.specs.Prelude.{◌≡◌, ◌+◌, ◌≤◌, ◌<◌};
 ghost use Rattle.surface.specs.Sheet.{quarter_of};
-ghost use Rattle.boxes.specs.Boxes.{box_at, overlap, shares_area, among, lies_in};
+ghost use Rattle.boxes.specs.Boxes.{box_of, overlap, shares_area, among, lies_in};
 
 // A box, low corner first.
 #[derive(Clone, Copy)]
@@ -23,12 +23,12 @@ fn overlaps(lo: usize, hi: usize, x: usize, n: usize) -> bool
     x < hi && lo < x + n
 }
 
-// The square of this side at (x, y) shares area with the box of the corners u0, v0, u1, v1.
-pub fn meets(x: usize, y: usize, side: usize, corners: &[usize; 4]) -> bool
+// The square of this side at (x, y) shares area with the box.
+pub fn meets(x: usize, y: usize, side: usize, b: &Box) -> bool
     requires { (x + side ≤ 32) × (y + side ≤ 32) }
-    ensures { result ≡ shares_area x y side (box_at corners.now) }
+    ensures { result ≡ shares_area x y side (box_of b.now) }
 {
-    overlaps(corners[0], corners[2], x, side) && overlaps(corners[1], corners[3], y, side)
+    overlaps(b.u0, b.u1, x, side) && overlaps(b.v0, b.v1, y, side)
 }
 
 // Along one direction, the n places from x on are among the places lo to hi - 1.
@@ -39,12 +39,12 @@ fn within(lo: usize, hi: usize, x: usize, n: usize) -> bool
     lo <= x && x + n <= hi
 }
 
-// The square of this side at (x, y) lies in the box of the corners u0, v0, u1, v1.
-pub fn holds(x: usize, y: usize, side: usize, corners: &[usize; 4]) -> bool
+// The square of this side at (x, y) lies in the box.
+pub fn holds(x: usize, y: usize, side: usize, b: &Box) -> bool
     requires { (x + side ≤ 32) × (y + side ≤ 32) }
-    ensures { result ≡ lies_in x y side (box_at corners.now) }
+    ensures { result ≡ lies_in x y side (box_of b.now) }
 {
-    within(corners[0], corners[2], x, side) && within(corners[1], corners[3], y, side)
+    within(b.u0, b.u1, x, side) && within(b.v0, b.v1, y, side)
 }
 
 // The quarter that holds a point, along a side of n cells of level 0, at u steps: on a shared edge the one of greater
@@ -55,5 +55,5 @@ pub fn quarter_of(n: usize, u: usize) -> usize
 {
     let q = u / 32;
     let last = 4 * n - 1;
-    if q < last { q } else { last }
+    q.min(last)
 }

@@ -5,8 +5,7 @@ use Prim.Native.Nat.{ℕ, zero, suc, ◌+◌, ◌-◌, ◌*◌, ◌/◌, ◌%◌
 use native.Mathlib.Nat.{add-mul, mul-one, mul-le-mul_right}
 use native.Mathlib.Omega.{arith}
 use lib.IntN.{ℤ, pos, ◌*ℤ◌}
-use lib.ListN.{length, get_or, set, length-set, replicate, get_or-replicate}
-use lib.Seq.{get_or-set_same, get_or-set_other}
+use lib.ListN.{length, get_or, replicate, get_or-replicate}
 use Rattle.finite.specs.Range.{sum, sum2}
 use Rattle.finite.proofs.Sum.{sum-cong}
 use Rattle.finite.proofs.Weighted.{nested}
@@ -16,7 +15,7 @@ use Rattle.surface.specs.Patch.{stencil}
 use Rattle.surface.proofs.Parents.{parents, parents2}
 use Rattle.patch.specs.Steps.{Small, midway, even_of, odd_of}
 use Rattle.patch.proofs.Subdivision.{even-child, odd-child, even-size, odd-size}
-use Rattle.carry.specs.Carried.{Within, child_of, child_from, column_child, AlongV, RowsOf}
+use Rattle.carry.specs.Carried.{Within, child_of, child_from, column_child, RowsOf}
 
 -- ---- a child by the parity of its index
 
@@ -85,40 +84,8 @@ child-same b i f g same e = go (native.Mathlib.Decide.ℕ_discrete (i % 2) 0)
 
 -- ---- along v, column after column
 
--- a parent of row b of the finer level in column c, of rows of n
-pub reads-below : (n b c j : ℕ) {size : ℕ} → c < n → j ≤ 1 + b % 2 → (b / 2 + b % 2 + 2) * n ≤ size
-    → b / 2 * n + c + j * n < size
-reads-below n b c j hc hj h =
-    let rows : b / 2 + j + 1 ≤ b / 2 + b % 2 + 2 = omega arith in
-    omega (arith, mul-le-mul_right n rows, add-mul (b / 2) j n, add-mul (b / 2 + j) 1 n)
-
 pub zeros-small : Within midway (replicate 35 (pos 0))
 zeros-small k h = rw (get_or-replicate 35 k (pos 0) (pos 0) h) (omega arith)
-
-pub sums-more : (n b c : ℕ) (s r : List ℤ) (v : ℤ) → c < 35 → AlongV c n b s r → v ≡ child_from s (b / 2 * n + c) n b
-    → Small v → AlongV (c + 1) n b s (set r c v)
-sums-more n b c s r v inside w e small = record {
-  size = length-set r c v ∙ w.size;
-  sums = λ k h. go k h (native.Mathlib.Decide.ℕ_discrete k c);
-  small = λ k h. bound k (rw (length-set r c v) at h) (native.Mathlib.Decide.ℕ_discrete k c);
-}
-  where
-    here : get_or (set r c v) c (pos 0) ≡ v
-    here = get_or-set_same r c v (pos 0) (omega (arith, w.size))
-
-    column : v ≡ column_child s n b c
-    column =
-        e ∙ sum-cong 3 (λ j. pos (stencil b j) *ℤ get_or s (b / 2 * n + c + j * n) (pos 0))
-        (λ j. pos (stencil b j) *ℤ get_or s ((b / 2 + j) * n + c) (pos 0))
-        (λ j l. ap (λ k. pos (stencil b j) *ℤ get_or s k (pos 0)) (omega (arith, add-mul (b / 2) j n)))
-
-    go : (k : ℕ) → k < c + 1 → Dec (k ≡ c) → get_or (set r c v) k (pos 0) ≡ column_child s n b k
-    go k h (yes q) = ap (λ k. get_or (set r c v) k (pos 0)) q ∙ here ∙ column ∙ ap (column_child s n b) (sym q)
-    go k h (no q) = get_or-set_other r c k v (pos 0) q ∙ w.sums k (omega arith)
-
-    bound : (k : ℕ) → k < length r → Dec (k ≡ c) → Small (get_or (set r c v) k (pos 0))
-    bound k h (yes q) = rw (q, here) small
-    bound k h (no q) = rw (get_or-set_other r c k v (pos 0) q) (w.small k h)
 
 -- ---- along u
 

@@ -36,10 +36,8 @@ fn along_v(sums: &mut [i64; 35], coarse: &[i64], n: usize, b: usize)
     ensures { AlongV n n b coarse.now sums.new }
 {
     let first = b / 2 * n;
-    let mut c = 0;
-    while c < n {
+    for c in 0..n {
         sums[c] = child(coarse, first + c, n, b);
-        c += 1;
     }
 }
 
@@ -51,11 +49,11 @@ fn put(row: &mut [i64], own: &[i64], sums: &[i64; 35], mark: u64, a: usize)
     ensures { row.new ≡ set row.old a
         (carried_if (leb 1 mark) (get_or own.now a (pos 0)) sums.now a) }
 {
-    if 1 <= mark {
-        row[a] = own[a];
-        return;
-    }
-    row[a] = child(sums, a / 2, 1, a);
+    row[a] = if 1 <= mark {
+        own[a]
+    } else {
+        child(sums, a / 2, 1, a)
+    };
 }
 
 // Writes the carried values of a row, given its own coefficients: those functions are marked whose cut support lies in
@@ -67,15 +65,13 @@ fn fill_row(row: &mut [i64], own: &[i64], sums: &[i64; 35], inside: activity::Ma
 {
     let pairs = row.len() / 2;
     let mut m = inside;
-    let mut k = 0;
-    while k < pairs {
+    for k in 0..pairs {
         put(row, own, sums, m.even % 2, 2 * k);
         m = activity::next(m, e);
         put(row, own, sums, m.even % 2, 2 * k + 1);
         m = activity::next(m, e);
-        k += 1;
     }
-    put(row, own, sums, m.even % 2, 2 * k);
+    put(row, own, sums, m.even % 2, 2 * pairs);
 }
 
 // Writes row b of the level after `level` from the numbers of `level`, whose rows from `first` on are lent, and from
@@ -127,27 +123,23 @@ fn fill_level(out: &mut [i64], numbers: &[i64], rows: &[u32; 96], w: usize, h: u
     let e = activity::eighths(level);
     let mut sums = [0; 35];
     let mut from = first;
-    let mut b = 0;
-    while b < m {
+    for b in 0..m {
         let inside = activity::region_row(rows, w, h, level, b, level);
         along_v(&mut sums, &out[low..first], columns, b);
         let to = from + n;
         fill_row(&mut out[from..to], &numbers[from..to], &sums, inside, e);
         from = to;
-        b += 1;
     }
 }
 
-// Copies the first n numbers of a slice.
+// Copies the first n numbers of a slice; copy_from_slice would have the archive need memmove.
 fn copy(out: &mut [i64], numbers: &[i64], n: usize)
     requires { (n ≤ length out.old) × (n ≤ length numbers.now) }
     ensures { (length out.new ≡ length out.old)
         × (take n out.new ≡ take n numbers.now) }
 {
-    let mut i = 0;
-    while i < n {
-        out[i] = numbers[i];
-        i += 1;
+    for (i, number) in numbers[..n].iter().enumerate() {
+        out[i] = *number;
     }
 }
 
@@ -158,9 +150,7 @@ pub fn fill(numbers: &[i64], rows: &[u32; 96], w: usize, h: usize, out: &mut [i6
     ensures { out.new ≡ carried_slice w h rows.now numbers.now }
 {
     copy(out, numbers, coefficients::places(w, h, 0));
-    let mut coarse = 0;
-    while coarse < 3 {
+    for coarse in 0..3 {
         fill_level(out, numbers, rows, w, h, coarse);
-        coarse += 1;
     }
 }

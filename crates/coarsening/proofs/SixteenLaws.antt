@@ -1,6 +1,6 @@
 -- Four numbers in a row, taken, put and tested, and patches of four such rows.
-use mathlib.Core.Path.{◌≡◌, refl, sym, ap, ◌∙◌, subst}
-use mathlib.Core.Bool.{Bool, true, false, not, cond, true≢false, false≢true}
+use mathlib.Core.Path.{◌≡◌, sym, ap, ◌∙◌, subst}
+use mathlib.Core.Bool.{Bool, true, false, cond}
 use mathlib.Core.List.{List, [], ◌∷◌}
 use Prim.Native.Nat.{ℕ, ◌+◌, ◌*◌, ◌≤◌, ◌<◌}
 use native.Mathlib.Decide.{dec_lt}
@@ -14,7 +14,7 @@ use lib.Seq.{get_or-set_same, get_or-set_other}
 use Rattle.finite.proofs.Four.{each}
 use Rattle.surface.specs.Fields.{number_at}
 use Rattle.patch.specs.Patches.{entry}
-use Rattle.coarsening.specs.Coarser.{Stand, number_of, PutFour, PutAt, RowTested, Tested}
+use Rattle.coarsening.specs.Coarser.{Stand, number_of, PutFour, PutAt}
 
 -- ---- taken
 
@@ -153,31 +153,29 @@ past-limit m z e t = ltb-true m (nat_abs z) (sym e ∙ t)
 pub in-limit : (m : ℕ) (z : ℤ) {r : Bool} → r ≡ ltb m (nat_abs z) → r ≡ false → nat_abs z ≤ m
 in-limit m z e t = ltb-false m (nat_abs z) (sym e ∙ t)
 
--- one of four is past it
-pub row-past : (m k : ℕ) (row : List ℤ) → k < 4 → m < nat_abs (get_or row k (pos 0)) → RowTested m row false
-row-past m k row h p = (λ q. absurd (false≢true q), λ _. (k, h, p))
+-- the first n numbers of a row are within it, and those of the first n rows of a patch
+abbrev pub RowWithin : ℕ → List ℤ → ℕ → Type 0
+RowWithin m row n = (k : ℕ) → k < n → nat_abs (get_or row k (pos 0)) ≤ m
 
--- the last tells where the others are within it
-pub row_last : (m : ℕ) (row : List ℤ) (r : Bool) → nat_abs (get_or row 0 (pos 0)) ≤ m → nat_abs (get_or row 1 (pos 0)) ≤ m
-    → nat_abs (get_or row 2 (pos 0)) ≤ m → r ≡ ltb m (nat_abs (get_or row 3 (pos 0))) → RowTested m row (not r)
-row_last m row true a b c e = row-past m 3 row (lit< tt) (past-limit m (get_or row 3 (pos 0)) e refl)
-row_last m row false a b c e = (
-  λ _. each (λ k. nat_abs (get_or row k (pos 0)) ≤ m) a b c (in-limit m (get_or row 3 (pos 0)) e refl),
-  λ q. absurd (true≢false q),
-)
+abbrev pub RowsWithin : ℕ → List (List ℤ) → ℕ → Type 0
+RowsWithin m patch n = (l : ℕ) → l < n → RowWithin m (get_or patch l []) 4
 
--- a row of a patch that fails
-pub patch-past : (m l : ℕ) (patch : List (List ℤ)) {r : Bool} → l < 4 → RowTested m (get_or patch l []) r → r ≡ false
-    → Tested m patch false
-patch-past m l patch h t e = let w = t.1 e in (λ q. absurd (false≢true q), λ _. (l, w.0, h, w.1, w.2))
+pub number-more : (m : ℕ) (row : List ℤ) (n : ℕ) → RowWithin m row n → nat_abs (get_or row n (pos 0)) ≤ m
+    → RowWithin m row (n + 1)
+number-more m row n within here k h = go (dec_lt k n)
+  where
+    go : Dec (k < n) → nat_abs (get_or row k (pos 0)) ≤ m
+    go (yes p) = within k p
+    go (no p) =
+        let last : n ≡ k = omega (arith, p, h) in
+        subst (λ k. nat_abs (get_or row k (pos 0)) ≤ m) last here
 
--- the last tells where the others pass
-pub patch-last : (m : ℕ) (patch : List (List ℤ)) {a b c : Bool} (r : Bool) → RowTested m (get_or patch 0 []) a → a ≡ true
-    → RowTested m (get_or patch 1 []) b → b ≡ true → RowTested m (get_or patch 2 []) c → c ≡ true
-    → RowTested m (get_or patch 3 []) r → Tested m patch r
-patch-last m patch true a ea b eb c ec d = (
-  λ _ l k hl hk. each (λ l. (k : ℕ) → k < 4 → nat_abs (entry patch l k) ≤ m) (a.0 ea) (b.0 eb) (c.0 ec) (d.0 refl)
-      l hl k hk,
-  λ q. absurd (true≢false q),
-)
-patch-last m patch false a ea b eb c ec d = patch-past m 3 patch (lit< tt) d refl
+pub row-more : (m : ℕ) (patch : List (List ℤ)) (n : ℕ) → RowsWithin m patch n → RowWithin m (get_or patch n []) 4
+    → RowsWithin m patch (n + 1)
+row-more m patch n within here l h = go (dec_lt l n)
+  where
+    go : Dec (l < n) → RowWithin m (get_or patch l []) 4
+    go (yes p) = within l p
+    go (no p) =
+        let last : n ≡ l = omega (arith, p, h) in
+        subst (λ l. RowWithin m (get_or patch l []) 4) last here

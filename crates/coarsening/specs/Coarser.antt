@@ -1,5 +1,5 @@
 -- The numbers of a level of a grid from those of the level after it.
-use Rattle.std.specs.Prelude.{◌≡◌, Bool, true, false, cond, List, ℕ, zero, suc, ◌+◌, ◌*◌, ◌/◌, ◌%◌, ◌≤◌, ◌<◌, ℤ, pos, nat_abs, eqb, length, get_or}
+use Rattle.std.specs.Prelude.{◌≡◌, Option, MatchOption, Bool, true, false, cond, List, ℕ, zero, suc, ◌+◌, ◌*◌, ◌/◌, ◌%◌, ◌≤◌, ◌<◌, ℤ, pos, nat_abs, eqb, length, get_or}
 use Rattle.surface.specs.Sheet.{functions, quarters}
 use Rattle.surface.specs.Patch.{subdivided}
 use Rattle.surface.specs.Table.{places, limit}
@@ -27,10 +27,10 @@ abbrev pub Around : ℕ → ℕ → ℕ → Type 0
 Around L q a = (cell_at L q ≤ a) × (a < cell_at L q + 4)
 
 -- what is found in cell (x, y) of level L: a quarter square of level at most L, or that there is none
-abbrev pub Found : ℕ → ℕ → ℕ → (ℕ → ℕ → ℕ) → Square → Type 0
-Found L x y lev s =
-    (s.found ≡ true → (cell_at L s.q ≡ x) × (cell_at L s.r ≡ y) × (lev s.q s.r ≤ L))
-    × (s.found ≡ false → (q r : ℕ) → cell_at L q ≡ x → cell_at L r ≡ y → L < lev q r)
+abbrev pub Found : ℕ → ℕ → ℕ → (ℕ → ℕ → ℕ) → Option Square → Type 0
+Found L x y lev found =
+    MatchOption found ((q r : ℕ) → cell_at L q ≡ x → cell_at L r ≡ y → L < lev q r)
+    (λ s. (cell_at L s.q ≡ x) × (cell_at L s.r ≡ y) × (lev s.q s.r ≤ L))
 
 -- ---- the finer numbers
 
@@ -60,12 +60,7 @@ pub record PutFour (at : ℕ) (row before after : List ℤ) : Type 0 where
   pub inside : (k : ℕ) → k < 4 → get_or after (at + k) (pos 0) ≡ get_or row k (pos 0)
   pub outside : (p : ℕ) → (at ≤ p → p < at + 4 → ⊥) → get_or after p (pos 0) ≡ get_or before p (pos 0)
 
--- a test that four numbers are within m, and that those of a patch are
-abbrev pub RowTested : ℕ → List ℤ → Bool → Type 0
-RowTested m row t =
-    (t ≡ true → (k : ℕ) → k < 4 → nat_abs (get_or row k (pos 0)) ≤ m)
-    × (t ≡ false → (k : ℕ) × (k < 4) × (m < nat_abs (get_or row k (pos 0))))
-
+-- a test that the numbers of a patch are within m
 abbrev pub Tested : ℕ → List (List ℤ) → Bool → Type 0
 Tested m patch t =
     (t ≡ true → Bounded m patch)

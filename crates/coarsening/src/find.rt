@@ -3,10 +3,9 @@ ghost use Rattle.std.specs.Prelude.{◌≡◌, ◌+◌, ◌*◌, ◌≤◌, ◌<
 ghost use Rattle.rows.specs.Rows.{levels_of};
 ghost use Rattle.coarsening.specs.Coarser.{cell_at, side_at, Found};
 
-// A quarter square, where one was found.
+// A quarter square, by its quarters along u and along v.
 #[derive(Clone, Copy)]
 pub struct Square {
-    pub found: bool,
     pub q: usize,
     pub r: usize,
 }
@@ -16,16 +15,12 @@ pub fn cell_at(level: usize, q: usize) -> usize
     requires { (level ≤ 3) × (q < 32) }
     ensures { (result ≡ cell_at level q) × (result < 64) }
 {
-    if level == 0 {
-        return q / 4;
+    match level {
+        0 => q / 4,
+        1 => q / 2,
+        2 => q,
+        _ => 2 * q,
     }
-    if level == 1 {
-        return q / 2;
-    }
-    if level == 2 {
-        return q;
-    }
-    2 * q
 }
 
 // The quarters along a cell's side, up to level 2.
@@ -33,34 +28,26 @@ fn side_at(level: usize) -> usize
     requires { level ≤ 2 }
     ensures { result ≡ side_at level }
 {
-    if level == 0 {
-        return 4;
+    match level {
+        0 => 4,
+        1 => 2,
+        _ => 1,
     }
-    if level == 1 {
-        return 2;
-    }
-    1
 }
 
 // The first quarter square of at most a level in cell (x, y) of that level.
-pub fn find(rows: &[u32; 96], level: usize, x: usize, y: usize) -> Square
+pub fn find(rows: &[u32; 96], level: usize, x: usize, y: usize) -> Option<Square>
     requires { (level ≤ 2) × ((x + 1) * side_at level ≤ 32) × ((y + 1) * side_at level ≤ 32) }
     ensures { Found level x y (levels_of rows.now) result }
 {
     let side = side_at(level);
     let most = level as u8;
-    let mut i = 0;
-    while i < side * side {
-        let q = x * side + i % side;
-        let r = y * side + i / side;
-        if rows::level_at(rows, q, r) <= most {
-            return Square { found: true, q, r };
+    for r in y * side..(y + 1) * side {
+        for q in x * side..(x + 1) * side {
+            if rows::level_at(rows, q, r) <= most {
+                return Some(Square { q, r });
+            }
         }
-        i += 1;
     }
-    Square {
-        found: false,
-        q: 0,
-        r: 0,
-    }
+    None
 }

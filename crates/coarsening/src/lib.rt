@@ -76,32 +76,26 @@ fn back_row(
         (finer level body.now fine.now (functions w (level + 1))) C → Past w h level C) }
 {
     let columns = coefficients::functions(w, level) - 3;
-    let mut waiting = find::Square {
-        found: false,
-        q: 0,
-        r: 0,
-    };
+    let mut waiting: Option<find::Square> = None;
     let mut done = 0;
-    let mut next = 0;
-    while next < columns {
-        let x = next;
-        next += 1;
-        let square = find::find(rows, level, x, y);
-        if !square.found {
+    for x in 0..columns {
+        let Some(square) = find::find(rows, level, x, y) else {
             continue;
-        }
-        if waiting.found && x > done {
-            if !back(coarse, body, fine, w, h, level, waiting.q, waiting.r) {
+        };
+        if let Some(before) = waiting
+            && x > done
+        {
+            if !back(coarse, body, fine, w, h, level, before.q, before.r) {
                 return false;
             }
-            done = find::cell_at(level, waiting.q) + 4;
+            done = find::cell_at(level, before.q) + 4;
         }
-        waiting = square;
+        waiting = Some(square);
     }
-    if !waiting.found {
-        return true;
+    match waiting {
+        Some(last) => back(coarse, body, fine, w, h, level, last.q, last.r),
+        None => true,
     }
-    back(coarse, body, fine, w, h, level, waiting.q, waiting.r)
 }
 
 // Finds the numbers of a level, which are 0 before; false where one passes the limit of the level, so that no table has
@@ -124,12 +118,10 @@ pub fn back_level(
         (finer level body.now fine.now (functions w (level + 1))) C → Past w h level C) }
 {
     let high = coefficients::functions(h, level) - 3;
-    let mut y = 0;
-    while y < high {
+    for y in 0..high {
         if !back_row(coarse, body, fine, rows, w, h, level, y) {
             return false;
         }
-        y += 1;
     }
     true
 }

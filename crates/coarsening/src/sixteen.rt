@@ -1,7 +1,7 @@
 // The sixteen numbers around a cell, taken and put: row l of a patch has those along u of the l-th function along v.
 ghost use Rattle.std.specs.Prelude.{◌≡◌, true, false, ℕ, ◌+◌, ◌*◌, ◌≤◌, ◌<◌, pos, nat_abs, length, get_or};
 ghost use Rattle.patch.specs.Patches.{entry, Bounded};
-ghost use Rattle.coarsening.specs.Coarser.{Stand, number_of, finer, PutFour, PutAt, RowTested, Tested};
+ghost use Rattle.coarsening.specs.Coarser.{Stand, number_of, finer, PutFour, PutAt, Tested};
 
 // Four numbers from a place on: at level 2 those of level 3 in the grid's body, else in a slice.
 fn four(body: &[u8], fine: &[i64], level: usize, at: usize) -> [i64; 4]
@@ -65,36 +65,17 @@ pub fn put_patch(s: &mut [i64], n: usize, x: usize, y: usize, patch: [[i64; 4]; 
     put_four(s, at + 3 * n, patch[3]);
 }
 
-// Whether four numbers are all within a limit.
-fn row_within(row: [i64; 4], limit: i64) -> bool
-    requires { (m : ℕ) × (limit ≡ pos m) × (m < 9000000000) }
-    ensures { (m : ℕ) → limit ≡ pos m → RowTested m row result }
-{
-    if coefficients::past(row[0], limit) {
-        return false;
-    }
-    if coefficients::past(row[1], limit) {
-        return false;
-    }
-    if coefficients::past(row[2], limit) {
-        return false;
-    }
-    !coefficients::past(row[3], limit)
-}
-
-// Whether the numbers of a patch are.
+// Whether the numbers of a patch are all within a limit.
 pub fn within(patch: [[i64; 4]; 4], limit: i64) -> bool
     requires { (m : ℕ) × (limit ≡ pos m) × (m < 9000000000) }
     ensures { (m : ℕ) → limit ≡ pos m → Tested m patch result }
 {
-    if !row_within(patch[0], limit) {
-        return false;
+    for row in patch {
+        for x in row {
+            if coefficients::past(x, limit) {
+                return false;
+            }
+        }
     }
-    if !row_within(patch[1], limit) {
-        return false;
-    }
-    if !row_within(patch[2], limit) {
-        return false;
-    }
-    row_within(patch[3], limit)
+    true
 }

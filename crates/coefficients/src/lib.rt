@@ -6,19 +6,22 @@ ghost use Rattle.surface.specs.Sheet as Sheet;
 ghost use Rattle.surface.specs.Table as Table;
 ghost use Rattle.surface.specs.Table.{cause, ◌or_else◌};
 ghost use Rattle.surface.specs.Calls.{length_cause};
+ghost use Rattle.answers.specs.Refusals.{cause_of};
+
+use answers::Refusal;
 
 // A side of a sheet is 1 to 8 cells.
 pub fn good_side(n: usize) -> bool
     ensures { result ≡ Sheet.good_side n }
 {
-    if 1 <= n { n <= 8 } else { false }
+    1 <= n && n <= 8
 }
 
 // Both sides of a sheet are.
 pub fn good_sides(w: usize, h: usize) -> bool
     ensures { result ≡ (Sheet.good_side w && Sheet.good_side h) }
 {
-    if good_side(w) { good_side(h) } else { false }
+    good_side(w) && good_side(h)
 }
 
 // The functions of a level along a side of n cells.
@@ -98,28 +101,31 @@ pub fn past(number: i64, limit: i64) -> bool
 }
 
 // 16, then 17, of the outputs of a call that writes a table whose tree has this many bytes.
-pub fn outputs_cause(w: usize, h: usize, bytes: usize, tree_out: &[u8], numbers_out: &[i64]) -> u8
+pub fn outputs_cause(
+    w: usize,
+    h: usize,
+    bytes: usize,
+    tree_out: &[u8],
+    numbers_out: &[i64],
+) -> Result<(), Refusal>
     requires { (w ≤ 8) × (h ≤ 8) }
-    ensures { result ≡ (length_cause (Table.slots w h) numbers_out.now
+    ensures { cause_of result ≡ (length_cause (Table.slots w h) numbers_out.now
         or_else cause 17 (ltb (length tree_out.now) bytes)) }
 {
     if numbers_out.len() != start(w, h, 4) {
-        return 16;
+        return Err(Refusal::OutputLength);
     }
     if tree_out.len() < bytes {
-        return 17;
+        return Err(Refusal::TreeOutputShort);
     }
-    0
+    Ok(())
 }
 
 // Fills a slice with one number.
 pub fn fill(s: &mut [i64], number: i64)
     ensures { s.new ≡ replicate (length s.old) number }
 {
-    let n = s.len();
-    let mut i = 0;
-    while i < n {
-        s[i] = number;
-        i += 1;
+    for place in s.iter_mut() {
+        *place = number;
     }
 }

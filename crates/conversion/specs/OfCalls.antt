@@ -1,7 +1,7 @@
 -- Document 02, Nine, of the calls `write_grid`, `read_grid` and `exact` and of the linked ones, from their promises
 -- alone. A statement is parametrised by what it is to have made each call, so that it is said once for both. Proved in
 -- proofs/OfCalls.antt, of the linked calls in proofs/LinkedCalls.antt.
-use Rattle.std.specs.Prelude.{◌≡◌, ◌↔◌, true, List, ℕ, ◌<◌, ◌≤◌, ℤ, length, take, drop}
+use Rattle.std.specs.Prelude.{◌≡◌, ◌↔◌, true, List, ℕ, ◌<◌, ◌≤◌, ℤ, length, take, drop, Result}
 use Rattle.surface.specs.Sheet.{quarters, on_sheet}
 use Rattle.surface.specs.Table.{tree_of, formed, levels, slots, region_cause, Acceptable}
 use Rattle.surface.specs.Calls.{Answer, refused, gives, answer}
@@ -9,10 +9,9 @@ use Rattle.surface.specs.Fields.{contains, Bytes}
 use Rattle.surface.specs.TableFile.{Sides}
 use Rattle.surface.specs.Grid.{grid_reading, ReadsAs, grid_file, grid_of, Grid, grid_contents}
 use Rattle.surface.specs.Demands.{Contents}
-use Rattle.answers.specs.declared.Exact.{Exact}
-use Rattle.answers.specs.declared.Length.{Length}
+use Rattle.answers.specs.declared.Refusal.{Refusal}
 use Rattle.answers.specs.declared.Sheet.{Sheet}
-use Rattle.answers.specs.Answers.{exact_answer, length_answer, sheet_answer}
+use Rattle.answers.specs.Answers.{value_answer, sheet_answer}
 use Rattle.demands.specs.Promises.{ExactPromise}
 use Rattle.demands.specs.LinkedPromises.{KilnExactPromise}
 use Rattle.demands.specs.GridPromises.{WriteGridPromise, ReadGridPromise, KilnWriteGridPromise, KilnReadGridPromise}
@@ -22,15 +21,15 @@ use Rattle.conversion.specs.Grids.{grid_length, own_numbers, carried_to}
 
 -- The grid of the table c was written to `out`: this was told, and `after` was left.
 abbrev pub Wrote : ℕ → ℕ → Contents → List ℕ → Answer ℕ → List ℕ → Type 0
-Wrote W H c out told after = (r : Length) × WriteGridPromise W H c out r after × (length_answer r ≡ told)
+Wrote W H c out told after = (r : Result ℕ Refusal) × WriteGridPromise W H c out r after × (value_answer r ≡ told)
 
 -- A grid was read over the tree t to `out`: this was told, and `after` was left.
 abbrev pub Read : List ℕ → List ℕ → List ℤ → Answer Sides → List ℤ → Type 0
-Read file t out told after = (r : Sheet) × ReadGridPromise file t out r after × (sheet_answer r ≡ told)
+Read file t out told after = (r : Result Sheet Refusal) × ReadGridPromise file t out r after × (sheet_answer r ≡ told)
 
 -- The exact reading of the table c at (u, v) was asked for, and this was told.
 abbrev pub Asked : ℕ → ℕ → Contents → ℕ → ℕ → Answer ℤ → Type 0
-Asked W H c u v told = (r : Exact) × ExactPromise W H c u v r × (exact_answer r ≡ told)
+Asked W H c u v told = (r : Result ℤ Refusal) × ExactPromise W H c u v r × (value_answer r ≡ told)
 
 -- The same of the linked calls: a code of 0 tells what stands at the parameters, and any other is the refusal number.
 abbrev pub KilnWrote : ℕ → ℕ → Contents → List ℕ → Answer ℕ → List ℕ → Type 0

@@ -1,6 +1,6 @@
 -- Sizes of sheets and tables.
 use mathlib.Core.Path.{◌≡◌, refl}
-use mathlib.Core.Bool.{true, false}
+use mathlib.Core.Bool.{true, false, ◌&&◌}
 use mathlib.Core.List.{List}
 use Prim.Native.Nat.{ℕ, ◌*◌, ◌≤◌, ◌<◌}
 use native.Mathlib.Nat.{mul-le-mul}
@@ -55,17 +55,13 @@ loaded-fits file tree_out numbers_out r e = go (file_contents file) e
 
 -- ---- the places that a file names
 
-pub no-width : (W H : ℕ) → good_side W ≡ false → places_of W H ≡ 0
+pub no-sheet : (W H : ℕ) → (good_side W && good_side H) ≡ false → places_of W H ≡ 0
 unfolding places_of
-no-width W H e = rw e refl
+no-sheet W H e = rw e refl
 
-pub no-height : (W H : ℕ) → good_side W ≡ true → good_side H ≡ false → places_of W H ≡ 0
+pub on-sheet : (W H : ℕ) → (good_side W && good_side H) ≡ true → places_of W H ≡ slots W H
 unfolding places_of
-no-height W H e f = rw (e, f) refl
-
-pub both-sides : (W H : ℕ) → good_side W ≡ true → good_side H ≡ true → places_of W H ≡ slots W H
-unfolding places_of
-both-sides W H e f = rw (e, f) refl
+on-sheet W H e = rw e refl
 
 pub good-small : (n : ℕ) → good_side n ≡ true → n ≤ 8
 good-small n e = (good-side n e).1

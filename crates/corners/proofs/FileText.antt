@@ -17,7 +17,7 @@ use Rattle.tablefile.proofs.FileLaws.{accepted}
 use Rattle.text.specs.Text.{refused_line}
 use Rattle.corners.specs.Text.{table_text, text_of, corner_text}
 use Rattle.corners.specs.Buffers.{places_of, places_named}
-use Rattle.corners.proofs.CornerLaws.{names-some, both-sides}
+use Rattle.corners.proofs.CornerLaws.{names-some, on-sheet}
 
 -- ---- what an accepted file says of the buffers
 
@@ -30,7 +30,7 @@ named-slots s f e =
     λ i h. get_or-take (length_at s) (drop 3 s) i 0 (omega arith) ∙ get_or-drop 3 s i 0 in
     names-some s (omega (arith, r.sides.whole))
     ∙ ap₂ places_of (sym (at 0 (omega arith)) ∙ r.side_w) (sym (at 1 (omega arith)) ∙ r.side_h)
-    ∙ both-sides f.W f.H r.good_w r.good_h
+    ∙ on-sheet f.W f.H (rw (r.good_w, r.good_h) refl)
 
 pub tree-short : (s : List ℕ) (f : Loaded) → file_contents s ≡ contains f → length f.tree ≤ 1365
 tree-short s f e =

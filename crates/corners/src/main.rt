@@ -17,10 +17,7 @@ ghost use Rattle.corners.specs.Buffers.{places_of, places_named};
 fn places_of(w: usize, h: usize) -> usize
     ensures { (result ≡ places_of w h) × (result ≤ 6196) }
 {
-    if !coefficients::good_side(w) {
-        return 0;
-    }
-    if !coefficients::good_side(h) {
+    if !coefficients::good_sides(w, h) {
         return 0;
     }
     coefficients::start(w, h, 4)
@@ -33,13 +30,7 @@ fn places_named(file: &[u8]) -> usize
     if file.len() < tablefile::TREE_FIELD {
         return 0;
     }
-    places_of(wide(file[tablefile::W]), wide(file[tablefile::H]))
-}
-
-fn wide(b: u8) -> usize
-    ensures { result ≡ b }
-{
-    b as usize
+    places_of(file[tablefile::W] as usize, file[tablefile::H] as usize)
 }
 
 // Whole watts at the corner (u, v), in cells.
@@ -67,11 +58,9 @@ fn row(
         × (result ≤ start + 99) }
 {
     let mut at = start;
-    let mut u = 0;
-    while u <= w {
+    for u in 0..w + 1 {
         let watts = watts_at(numbers, rows, w, h, u, v);
         at = text::line(u, v, watts, out, at);
-        u += 1;
     }
     at
 }
@@ -85,10 +74,8 @@ fn table_text(tree: &[u8], numbers: &[i64], w: usize, h: usize, out: &mut [u8]) 
     let mut rows = [0u32; 96];
     quadtree::walk::regions(tree, w, h, &mut rows);
     let mut at = text::header(out);
-    let mut v = 0;
-    while v <= h {
+    for v in 0..h + 1 {
         at = row(numbers, &rows, w, h, v, out, at);
-        v += 1;
     }
     at
 }
@@ -99,12 +86,9 @@ fn text_into(file: &[u8], tree: &mut [u8], numbers: &mut [i64], out: &mut [u8]) 
         × (901 ≤ length out.old) }
     ensures { Put (corner_text file.now) 0 out.old result out.new × (result ≤ 901) }
 {
-    let r = loading::read_file(file, tree, numbers);
-    match r {
-        answers::File::Loaded { length, w, h } => {
-            table_text(&tree[0..length], numbers, w, h, out)
-        }
-        answers::File::Refused(c) => text::refused(c, out),
+    match loading::read_file(file, tree, numbers) {
+        Ok(loaded) => table_text(&tree[0..loaded.length], numbers, loaded.w, loaded.h, out),
+        Err(refusal) => text::refused(refusal.number(), out),
     }
 }
 

@@ -8,7 +8,7 @@ use Rattle.surface.specs.Calls.{Answer, exact_outcome}
 use Rattle.surface.specs.Demands as steps
 use Rattle.surface.specs.Demands.{Contents, left, outcome_of, Step, after_step, after_all}
 use Rattle.surface.proofs.Demands.{reading-given, linear-readings, bracketed-readings, refinement-moves-no-reading}
-use Rattle.answers.specs.Answers.{exact_answer}
+use Rattle.answers.specs.Answers.{value_answer}
 use Rattle.demands.specs.DemandThree.{Made, enquire, commit, MadeAsPromised, left_by, Kept, standing, ReadingStays}
 use Rattle.demands.specs.DemandThree.{LinearOfCalls, BracketedOfCalls, ListsMoveNothing, DemandThree}
 
@@ -70,7 +70,7 @@ bracketed W H c u v r p n e = bracketed-readings W H c.tree c.numbers u v n (sym
 lists : ListsMoveNothing
 lists W H c ms acc k =
     let all = list-moves-nothing W H (MadeAsPromised W H) left_by lent_to (left_step W H) c ms acc k in
-    (all.0, λ u v before after p q. all.1 u v (exact_answer before) (exact_answer after) p q)
+    (all.0, λ u v before after p q. all.1 u v (value_answer before) (value_answer after) p q)
 
 pub demand-three : DemandThree
 demand-three = record { linear = linear; bracketed = bracketed; lists = lists }

@@ -1,14 +1,13 @@
 -- Demand 3 of the calls: what answers of `exact` and lists of calls of `enquire` and `commit` keep, from the calls'
 -- promises alone.
-use Rattle.std.specs.Prelude.{◌≡◌, true, List, [], ◌∷◌, ℕ, ◌<◌, ℤ, pos, ◌+ℤ◌, ◌*ℤ◌, get_or}
+use Rattle.std.specs.Prelude.{◌≡◌, true, List, [], ◌∷◌, ℕ, ◌<◌, ℤ, pos, ◌+ℤ◌, ◌*ℤ◌, get_or, Result}
 use Rattle.surface.specs.Sheet.{on_sheet}
 use Rattle.surface.specs.Table.{slots, Acceptable}
 use Rattle.surface.specs.Calls.{Answer, gives}
 use Rattle.surface.specs.Demands.{Asked, Commit, Contents, left, SameRegions, Bracketed}
-use Rattle.answers.specs.declared.Enquiry.{Enquiry}
-use Rattle.answers.specs.declared.Length.{Length}
-use Rattle.answers.specs.declared.Exact.{Exact}
-use Rattle.answers.specs.Answers.{length_answer, exact_answer}
+use Rattle.answers.specs.declared.Refusal.{Refusal}
+use Rattle.answers.specs.declared.Slip.{Slip}
+use Rattle.answers.specs.Answers.{value_answer}
 use Rattle.demands.specs.Promises.{EnquirePromise, CommitPromise, ExactPromise}
 
 -- ---- linear
@@ -27,9 +26,9 @@ pub record Combined (W H : ℕ) (c₁ c₂ c₃ : Contents) (a b : ℤ) : Type 0
 abbrev pub LinearOfCalls : Type 0
 LinearOfCalls =
     (W H : ℕ) (c₁ c₂ c₃ : Contents) (a b : ℤ) → Combined W H c₁ c₂ c₃ a b
-    → (u v : ℕ) (r₁ r₂ r₃ : Exact)
+    → (u v : ℕ) (r₁ r₂ r₃ : Result ℤ Refusal)
     → ExactPromise W H c₁ u v r₁ → ExactPromise W H c₂ u v r₂ → ExactPromise W H c₃ u v r₃
-    → (n₁ n₂ n₃ : ℤ) → exact_answer r₁ ≡ gives n₁ → exact_answer r₂ ≡ gives n₂ → exact_answer r₃ ≡ gives n₃
+    → (n₁ n₂ n₃ : ℤ) → value_answer r₁ ≡ gives n₁ → value_answer r₂ ≡ gives n₂ → value_answer r₃ ≡ gives n₃
     → n₁ ≡ a *ℤ n₂ +ℤ b *ℤ n₃
 
 -- ---- bracketed
@@ -38,8 +37,8 @@ LinearOfCalls =
 -- point"
 abbrev pub BracketedOfCalls : Type 0
 BracketedOfCalls =
-    (W H : ℕ) (c : Contents) (u v : ℕ) (r : Exact) → ExactPromise W H c u v r
-    → (n : ℤ) → exact_answer r ≡ gives n → Bracketed W H c.tree c.numbers u v n
+    (W H : ℕ) (c : Contents) (u v : ℕ) (r : Result ℤ Refusal) → ExactPromise W H c u v r
+    → (n : ℤ) → value_answer r ≡ gives n → Bracketed W H c.tree c.numbers u v n
 
 -- ---- "take any list of box insertions, refused ones included, that starts from an acceptable table, each insertion
 -- reading the table that the one before it left"
@@ -58,13 +57,13 @@ standing leaves c (m ∷ ms) = standing leaves (leaves c m) ms
 -- A call of `enquire` that was made: its box and level, and its answer. What it was lent it was lent for reading.
 pub record EnquireMade : Type 0 where
   pub lent : Asked
-  pub answer : Enquiry
+  pub answer : Result Slip Refusal
 
 -- A call of `commit` that was made: document 02, "with whatever slip it is handed"; its outputs, "whatever those are",
 -- its answer, and what its outputs then held.
 pub record CommitMade : Type 0 where
   pub lent : Commit
-  pub answer : Length
+  pub answer : Result ℕ Refusal
   pub tree : List ℕ
   pub numbers : List ℤ
 
@@ -83,7 +82,7 @@ MadeAsPromised W H c (commit m) = CommitPromise W H c m.lent m.answer m.tree m.n
 -- the one it read".
 abbrev pub left_by : Contents → Made → Contents
 left_by c (enquire m) = c
-left_by c (commit m) = left c (length_answer m.answer) m.tree m.numbers
+left_by c (commit m) = left c (value_answer m.answer) m.tree m.numbers
 
 -- What the exact reading at a point answers before a list that starts from the table c, and after it.
 pub record ReadingStays (W H : ℕ) (c : Contents) (u v : ℕ) (before after : Answer ℤ) : Type 0 where
@@ -101,9 +100,9 @@ ListsMoveNothing =
     (W H : ℕ) (c : Contents) (calls : List Made) → Acceptable W H c.tree c.numbers
     → Kept (MadeAsPromised W H) left_by c calls
     → Acceptable W H (standing left_by c calls).tree (standing left_by c calls).numbers
-    × ((u v : ℕ) (before after : Exact)
+    × ((u v : ℕ) (before after : Result ℤ Refusal)
     → ExactPromise W H c u v before → ExactPromise W H (standing left_by c calls) u v after
-    → ReadingStays W H c u v (exact_answer before) (exact_answer after))
+    → ReadingStays W H c u v (value_answer before) (value_answer after))
 
 -- The whole of demand 3.
 pub record DemandThree : Type 0 where

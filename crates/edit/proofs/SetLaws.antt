@@ -1,6 +1,6 @@
 -- The causes and the outcome of `set`.
 use mathlib.Core.Path.{◌≡◌, refl, sym, ap, ap₂, ◌∙◌}
-use mathlib.Core.Bool.{Bool, true, false, not, ◌&&◌, and-false}
+use mathlib.Core.Bool.{Bool, true, not, ◌&&◌}
 use mathlib.Core.List.{List, [], ◌∷◌, ◌++◌}
 use Prim.Native.Nat.{ℕ, zero, suc, ◌+◌, ◌-◌, ◌*◌, ◌≤◌, ◌<◌}
 use native.Mathlib.Nat.{mul_comm, zero-add, suc-add}
@@ -18,19 +18,6 @@ use Rattle.surface.specs.Calls.{index_fits, index, set_cause}
 use Rattle.surface.proofs.TableLaws.{sound, sides}
 use Rattle.surface.proofs.Causes.{or_else-none, cause-none, cause-off}
 use Rattle.coefficients.proofs.Parts.{part, part_length}
-
--- ---- the function can be set, by the tests of its indices
-
-module _ (n m L : ℕ) (i j : ℤ) (act : Bool) where
-  pub both-fit : index_fits n L i ≡ true → index_fits m L j ≡ true → (r : Bool) → r ≡ act
-      → r ≡ (index_fits n L i && index_fits m L j && act)
-  both-fit p q r e = rw (p, q) e
-
-  pub first_off : index_fits n L i ≡ false → false ≡ (index_fits n L i && index_fits m L j && act)
-  first_off p = rw p
-
-  pub second-off : index_fits m L j ≡ false → false ≡ (index_fits n L i && index_fits m L j && act)
-  second-off q = rw (q, and-false (index_fits n L i))
 
 -- ---- the place in the level's part, and the part in the slice
 

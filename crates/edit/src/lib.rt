@@ -9,17 +9,20 @@ ghost use Rattle.surface.specs.Calls.{TableMeets, fresh_cause, fresh_outcome, Sl
 ghost use Rattle.surface.specs.Calls.{index_fits, set_cause, set_outcome};
 ghost use Rattle.surface.specs.Calls as Calls;
 ghost use Rattle.rows.specs.Rows.{levels_of, Nested};
-ghost use Rattle.answers.specs.Answers.{length_answer, outcome_answer};
+ghost use Rattle.answers.specs.Answers.{value_answer, outcome_answer};
+ghost use Rattle.answers.specs.Refusals.{cause_of};
 
-// The lowest cause that refuses a fresh table, or 0.
-fn fresh_cause(w: usize, h: usize, number: i64, tree: &[u8], numbers: &[i64]) -> u8
-    ensures { result ≡ fresh_cause w h number tree.now numbers.now }
+use answers::Refusal;
+
+// The lowest cause that refuses a fresh table.
+fn fresh_cause(w: usize, h: usize, number: i64, tree: &[u8], numbers: &[i64]) -> Result<(), Refusal>
+    ensures { cause_of result ≡ fresh_cause w h number tree.now numbers.now }
 {
     if !coefficients::good_sides(w, h) {
-        return 1;
+        return Err(Refusal::Side);
     }
     if coefficients::past(number, coefficients::limit(0)) {
-        return 10;
+        return Err(Refusal::NumberLimit);
     }
     coefficients::outputs_cause(w, h, 1, tree, numbers)
 }
@@ -41,18 +44,15 @@ pub fn fresh(
     number: i64,
     tree_out: &mut [u8],
     numbers_out: &mut [i64],
-) -> answers::Length
+) -> Result<usize, Refusal>
     ensures { TableMeets (fresh_outcome w h number tree_out.old numbers_out.old)
-        (length_answer result) tree_out.new numbers_out.new }
+        (value_answer result) tree_out.new numbers_out.new }
 {
-    let cause = fresh_cause(w, h, number, tree_out, numbers_out);
-    if cause != 0 {
-        return answers::Length::Refused(cause);
-    }
+    fresh_cause(w, h, number, tree_out, numbers_out)?;
     let coarse = coefficients::places(w, h, 0);
     spread(numbers_out, coarse, number);
     tree_out[0] = 0;
-    answers::Length::Bytes(1)
+    Ok(1)
 }
 
 // Whether i is one of the functions of a level along a side of n cells.
@@ -93,17 +93,12 @@ fn settable(rows: &[u32; 96], w: usize, h: usize, level: usize, i: i64, j: i64) 
         && index_fits h level j
         && active w h (levels_of rows.now) level (Calls.index i) (Calls.index j)) }
 {
-    if index_fits(w, level, i) {
-        if index_fits(h, level, j) {
-            let a = index(w, level, i);
-            let b = index(h, level, j);
-            return is_active(rows, w, h, level, a, b);
-        }
-    }
-    false
+    index_fits(w, level, i)
+        && index_fits(h, level, j)
+        && is_active(rows, w, h, level, index(w, level, i), index(h, level, j))
 }
 
-// The lowest cause that refuses a set, or 0.
+// The lowest cause that refuses a set.
 fn set_cause(
     w: usize,
     h: usize,
@@ -113,24 +108,21 @@ fn set_cause(
     i: i64,
     j: i64,
     number: i64,
-) -> u8
-    ensures { result ≡ set_cause w h t.now numbers.now level i j number }
+) -> Result<(), Refusal>
+    ensures { cause_of result ≡ set_cause w h t.now numbers.now level i j number }
 {
     let mut rows = [0u32; 96];
-    let cause = table::cause::check(w, h, t, numbers, &mut rows);
-    if cause != 0 {
-        return cause;
-    }
+    table::cause::check(w, h, t, numbers, &mut rows)?;
     if 3 < level {
-        return 8;
+        return Err(Refusal::Level);
     }
-    if settable(&rows, w, h, level, i, j) {
-        if coefficients::past(number, coefficients::limit(level)) {
-            return 10;
-        }
-        return 0;
+    if !settable(&rows, w, h, level, i, j) {
+        return Err(Refusal::Function);
     }
-    9
+    if coefficients::past(number, coefficients::limit(level)) {
+        return Err(Refusal::NumberLimit);
+    }
+    Ok(())
 }
 
 // Sets the coefficient of the function (a, b) in its level's part, in rows of n.
@@ -152,19 +144,16 @@ pub fn set(
     i: i64,
     j: i64,
     number: i64,
-) -> answers::Outcome
+) -> Result<(), Refusal>
     ensures { SliceMeets (set_outcome w h tree.now numbers.old level i j number)
         (outcome_answer result) numbers.new }
 {
-    let cause = set_cause(w, h, tree, numbers, level, i, j, number);
-    if cause != 0 {
-        return answers::Outcome::Refused(cause);
-    }
+    set_cause(w, h, tree, numbers, level, i, j, number)?;
     let n = coefficients::functions(w, level);
     let a = index(w, level, i);
     let b = index(h, level, j);
     let first = coefficients::start(w, h, level);
     let end = first + coefficients::places(w, h, level);
     set_in_part(&mut numbers[first..end], n, a, b, number);
-    answers::Outcome::Done
+    Ok(())
 }

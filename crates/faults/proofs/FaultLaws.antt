@@ -20,9 +20,9 @@ not-and : (a b : Bool) → (not a || not b) ≡ not (a && b)
 not-and true b = refl
 not-and false b = refl
 
-pub none-lost : (p : ℕ → Bool) → false ≡ not (every 0 p)
+pub none-lost : (p : ℕ → Bool) {t : Bool} → t ≡ false → t ≡ not (every 0 p)
 unfolding every
-none-lost p = refl
+none-lost p e = e
 
 -- the flag t of the numbers below n, with the flag u of n itself
 pub lost-more : (n : ℕ) (p : ℕ → Bool) {t u v : Bool} → t ≡ not (every n p) → u ≡ not (p n) → v ≡ (t || u)

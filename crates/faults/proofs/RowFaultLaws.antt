@@ -1,5 +1,5 @@
 -- The faults of one coefficient more, one law for each way through the loop of `of_marked`.
-use mathlib.Core.Path.{◌≡◌, refl, sym, ap, ◌∙◌}
+use mathlib.Core.Path.{◌≡◌, sym, ap, ◌∙◌}
 use mathlib.Core.Bool.{Bool, true, false, not, and-true, and-false, or-true}
 use mathlib.Core.List.{List}
 use Prim.Native.Nat.{ℕ, ◌+◌, ◌<◌}
@@ -28,9 +28,10 @@ lost n p q = rw (add-one n, q, and-false (every n p))
 
 -- ---- one coefficient more: 0, passive and not 0, active and past its limit, active and within it
 
-pub none : (m : ℕ) (active : ℕ → Bool) (row : List ℤ) → FaultsBelow 0 m active row false false
+pub none : (m : ℕ) (active : ℕ → Bool) (row : List ℤ) {over stray : Bool} → over ≡ false → stray ≡ false
+    → FaultsBelow 0 m active row over stray
 unfolding every
-none m active row = record { limits = refl; zeros = refl }
+none m active row e f = record { limits = e; zeros = f }
 
 abbrev coef : List ℤ → ℕ → ℤ
 coef row k = get_or row k (pos 0)
@@ -70,13 +71,13 @@ module _ {k m : ℕ} {active : ℕ → Bool} {row : List ℤ} {over stray : Bool
 -- ---- whole rows
 
 -- a row of zeros has no fault
-pub zero_row : (m : ℕ) (active : ℕ → Bool) (row : List ℤ)
-    → ((k : ℕ) → k < length row → nat_abs (get_or row k (pos 0)) ≡ 0) → RowFaults m active row false false
-zero_row m active row zeros =
+pub zero_row : (m : ℕ) (active : ℕ → Bool) (row : List ℤ) {over stray : Bool} → over ≡ false → stray ≡ false
+    → ((k : ℕ) → k < length row → nat_abs (get_or row k (pos 0)) ≡ 0) → RowFaults m active row over stray
+zero_row m active row e f zeros =
     record {
-      limits = sym (ap not (every-intro (length row) (λ a. keeps_limit m (active a) (get_or row a (pos 0)))
+      limits = e ∙ sym (ap not (every-intro (length row) (λ a. keeps_limit m (active a) (get_or row a (pos 0)))
           (λ k l. rw (le-leb (nat_abs (coef row k)) m (omega (arith, zeros k l)), or-true))));
-      zeros = sym (ap not (every-intro (length row) (λ a. keeps_zero (active a) (get_or row a (pos 0)))
+      zeros = f ∙ sym (ap not (every-intro (length row) (λ a. keeps_zero (active a) (get_or row a (pos 0)))
           (λ k l. rw (eq-eqb (nat_abs (coef row k)) 0 (zeros k l), or-true))));
     }
 

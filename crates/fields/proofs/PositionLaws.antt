@@ -1,33 +1,22 @@
 -- The field at a position of the file: one law for each way out of `field_at`, and what its answers say.
+use Rattle.std.specs.Prelude.{Result, Ok, Err}
 use mathlib.Core.Path.{◌≡◌, sym, ap, ap₂, ◌∙◌}
 use mathlib.Core.Bool.{Bool, true, false, not}
 use mathlib.Core.List.{List}
 use Prim.Native.Nat.{ℕ, ◌+◌, ◌-◌, ◌*◌, ◌≤◌, ◌<◌}
 use native.Mathlib.Nat.{add-zero}
-use native.Mathlib.Decide.{dec_lt}
 use native.Mathlib.Omega.{arith}
-use borrow.Author.Tests.{leb-true, eq-eqb, ne_eqb, lt-ltb, le-ltb, lt-leb, le-leb}
-use lib.Dec.{leb, ltb, eqb}
+use borrow.Author.Tests.{leb-true, eq-eqb, ne_eqb, lt-ltb, le-ltb}
+use lib.Dec.{leb, eqb}
 use lib.ListN.{length, get_or, take, drop, length-take, length-drop}
 use lib.Seq.{get_or-drop, drop-drop}
 use Rattle.finite.proofs.Tests.{both}
 use Rattle.surface.specs.Table.{cause}
 use Rattle.surface.specs.Fields.{declined, unless, holds, length_at, field, checked}
-use Rattle.fields.specs.declared.Field as F
-use Rattle.fields.specs.declared.Field.{Field}
+use Rattle.answers.specs.declared.Refusal.{Refusal}
+use Rattle.answers.specs.Refusals.{number}
 use Rattle.fields.specs.Positions.{between, body_at, part_at}
 use Rattle.fields.proofs.FieldLaws.{body_of, rest_of, Stands}
-
--- a length that is not between two others
-pub below-least : (n low high : ℕ) → n < low → true ≡ not (between low high n)
-below-least n low high h = rw (lt-leb low n h)
-
-pub from-least : (n low high : ℕ) → low ≤ n → ltb high n ≡ not (between low high n)
-from-least n low high h = rw (le-leb low n h) (go (dec_lt high n))
-  where
-    go : Dec (high < n) → ltb high n ≡ not (leb n high)
-    go (yes l) = rw (lt-ltb high n l, lt-leb n high l)
-    go (no l) = rw (le-ltb high n (omega arith), le-leb n high (omega arith))
 
 pub sizes : (n low high : ℕ) → between low high n ≡ true → (low ≤ n) × (n ≤ high)
 sizes n low high h =
@@ -95,22 +84,22 @@ module _ (tag low high : ℕ) (file : List ℕ) (at : ℕ) where
 
 -- ---- what a field and its contents are, once the answer is known
 
-module _ {A : Type 0} (tag low high n : ℕ) (ok : List ℕ → Bool) (of : List ℕ → A) (file : List ℕ) (at : ℕ) (r : Field)
+module _ {A : Type 0} (tag low high n : ℕ) (ok : List ℕ → Bool) (of : List ℕ → A) (file : List ℕ) (at : ℕ) (r : Result ℕ Refusal)
     (e : part_at r file (body_at file at) ≡ field tag low high (drop at file)) where
-  known : (s : Field) → r ≡ s
+  known : (s : Result ℕ Refusal) → r ≡ s
       → checked (field tag low high (drop at file)) n ok of ≡ checked (part_at s file (body_at file at)) n ok of
   known s q = ap (λ f. checked f n ok of) (sym e ∙ ap (λ r. part_at r file (body_at file at)) q)
 
-  pub checked-faulty : (c : ℕ) → r ≡ F.TheVariants.Faulty c
-      → checked (field tag low high (drop at file)) n ok of ≡ declined c
-  checked-faulty c q = known (F.TheVariants.Faulty c) q
+  pub checked-faulty : (c : Refusal) → r ≡ Err c
+      → checked (field tag low high (drop at file)) n ok of ≡ declined (number c)
+  checked-faulty c q = known (Err c) q
 
   -- by the test of a whole body
-  pub checked-told : (end : ℕ) → r ≡ F.TheVariants.Body end → (t : Bool) → t ≡ ok (body_at file at end)
+  pub checked-told : (end : ℕ) → r ≡ Ok end → (t : Bool) → t ≡ ok (body_at file at end)
       → checked (field tag low high (drop at file)) n ok of
       ≡ unless (cause n (not t)) (holds (of (body_at file at end)) (drop end file))
   checked-told end q t u =
-      known (F.TheVariants.Body end) q
+      known (Ok end) q
       ∙ ap (λ t. unless (cause n (not t)) (holds (of (body_at file at end)) (drop end file))) (sym u)
 
 -- ---- a field that stands at a position

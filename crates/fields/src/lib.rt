@@ -8,15 +8,10 @@ ghost use Rattle.surface.specs.Fields.{length_at, field, two_bytes};
 ghost use Rattle.fields.specs.Positions.{between, body_at, part_at, ends};
 ghost use Rattle.fields.specs.Put.{Put};
 
+use answers::Refusal;
+
 // The bytes of a head: the tag and the length.
 pub const HEAD: usize = 3;
-
-// What stands where a field is due: the position after its body, or a refusal number.
-#[derive(Clone, Copy)]
-pub enum Field {
-    Body(usize),
-    Faulty(u8),
-}
 
 fn wide(x: u8) -> usize
     ensures { (result ≡ x) × (result < 256) }
@@ -45,11 +40,12 @@ pub fn length_at(file: &[u8], at: usize) -> usize
 fn outside(n: usize, low: usize, high: usize) -> bool
     ensures { result ≡ not (between low high n) }
 {
-    if n < low { true } else { high < n }
+    n < low || high < n
 }
 
-// The field due at a position: its tag, and the least and the greatest length that it may have.
-pub fn field_at(file: &[u8], at: usize, tag: u8, low: usize, high: usize) -> Field
+// The field due at a position, by its tag and the least and the greatest length that it may have: the position after its
+// body.
+pub fn field_at(file: &[u8], at: usize, tag: u8, low: usize, high: usize) -> Result<usize, Refusal>
     requires { at ≤ length file.now }
     ensures { (part_at result file.now (body_at file.now at)
         ≡ field tag low high (drop at file.now))
@@ -57,21 +53,21 @@ pub fn field_at(file: &[u8], at: usize, tag: u8, low: usize, high: usize) -> Fie
 {
     let left = file.len() - at;
     if left < HEAD {
-        return Field::Faulty(12);
+        return Err(Refusal::FileEnds);
     }
     let found = file[at];
     let n = length_at(file, at);
     let wrong = outside(n, low, high);
     if found != tag {
-        return Field::Faulty(13);
+        return Err(Refusal::FileTag);
     }
     if wrong {
-        return Field::Faulty(14);
+        return Err(Refusal::FileFieldLength);
     }
     if left < HEAD + n {
-        return Field::Faulty(12);
+        return Err(Refusal::FileEnds);
     }
-    Field::Body(at + HEAD + n)
+    Ok(at + HEAD + n)
 }
 
 // Puts a text at a position of a lent buffer, and returns the position after it.

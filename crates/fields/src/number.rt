@@ -60,12 +60,10 @@ pub fn within(body: &[u8], n: usize, most: usize) -> bool
     requires { (5 * n ≤ length body.now) × (most < 549755813888) }
     ensures { result ≡ all_within most n body.now }
 {
-    let mut k = 0;
-    while k < n {
+    for k in 0..n {
         if !keeps(body, k, most) {
             return false;
         }
-        k += 1;
     }
     true
 }

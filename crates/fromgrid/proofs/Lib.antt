@@ -1,5 +1,6 @@
 pub mod JudgeLaws
 pub mod NumberLaws
+pub mod WriteLaws
 pub mod Reached
 pub mod ConvertLaws
 pub mod Tables

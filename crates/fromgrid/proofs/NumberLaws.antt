@@ -8,7 +8,7 @@ use native.Mathlib.Nat.{zero-add, mul_comm}
 use native.Mathlib.Omega.{arith}
 use borrow.Author.Count.{below_more}
 use lib.IntN.{ℤ, pos}
-use lib.ListN.{length, get_or, set, take, drop, length-take, length-drop, get_or-append}
+use lib.ListN.{length, get_or, set, take, drop, length-take, length-drop, length-append, get_or-append}
 use lib.Seq.{get_or-set_same, get_or-set_other, length-take-le, get_or-take, get_or-append-add}
 use mir.Syntax.{w64}
 use mir.Val.{SFits, of_z, to_z}
@@ -40,7 +40,7 @@ set_more f row k v h e done =
 -- ---- parts of a slice, one after the other
 
 -- the n numbers from a place on, and others in their place
-abbrev mid : ℕ → ℕ → List ℤ → List ℤ
+abbrev pub mid : ℕ → ℕ → List ℤ → List ℤ
 mid at n out = take n (drop at out)
 
 pub mid-length : (at end : ℕ) (out : List ℤ) → at ≤ end → end ≤ length out → length (mid at (end - at) out) ≡ end - at
@@ -48,6 +48,12 @@ mid-length at end out low fits = simp (length-take, length-drop) (omega arith)
 
 abbrev pub put_in : ℕ → ℕ → List ℤ → List ℤ → List ℤ
 put_in at n row out = take at out ++ (row ++ drop n (drop at out))
+
+-- as long as before
+pub put-length : (at end : ℕ) (row out : List ℤ) → at ≤ end → end ≤ length out
+    → length row ≡ length (mid at (end - at) out) → length (put_in at (end - at) row out) ≡ length out
+put-length at end row out low fits e =
+    simp (length-append, length-take, length-drop) (omega (arith, e, mid-length at end out low fits))
 
 module _ (at n : ℕ) (row out : List ℤ) (fits : at ≤ length out) where
   front : length (take at out) ≡ at

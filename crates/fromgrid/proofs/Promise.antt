@@ -4,7 +4,6 @@ use mathlib.Core.Logic.{inl, inr}
 use mathlib.Core.Bool.{true, false, not, true≢false}
 use mathlib.Core.List.{List}
 use Prim.Native.Nat.{ℕ}
-use native.Mathlib.Omega.{arith}
 use lib.IntN.{ℤ}
 use lib.ListN.{length, drop}
 use borrow.Author.Tests.{eq-eqb, ne_eqb}
@@ -15,6 +14,7 @@ use Rattle.surface.specs.Fields.{declined, contains}
 use Rattle.surface.specs.Grid.{Grid, grid_contents, numbers_in, Converted, no_table, the_table}
 use Rattle.surface.specs.Grid.{read_grid_outcome, OverTree, ReadGrid}
 use Rattle.surface.proofs.TableLaws.{tree-formed, sound}
+use Rattle.answers.specs.declared.Refusal as Causes
 use Rattle.answers.proofs.AnswerLaws.{slice-refused}
 use Rattle.uniqueness.proofs.Grids.{reads-acceptable}
 use Rattle.rows.specs.Rows.{levels_of, level_rows}
@@ -59,8 +59,8 @@ module _ (file t : List ℕ) (W H : ℕ) (good : Good file W H) (out : List ℤ)
       kept no_table (refused 2) out
       (λ cs reads. true≢false (sym (tree-formed W H t
       (sound W H t cs (reads-acceptable W H t cs grid.numbers reads)).tree) ∙ e))
-      (slice-refused
-      (ap (λ b. cause 2 (not b) or_else 21 or_else length_cause (slots W H) out) (sym e)) (λ z. omega arith) _ _ out)
+      (slice-refused Causes.TheVariants.Tree
+      (ap (λ b. cause 2 (not b) or_else 21 or_else length_cause (slots W H) out) (sym e)) _ _ out)
 
   module _ (rows : List ℕ) (e : rows ≡ level_rows t) (whole : formed W H (tree_of t) ≡ true) where
     pub told-kept : (r : Answer Sides) (after : List ℤ) → Told W H (levels_of rows) (drop 8 file) out r after
@@ -71,9 +71,8 @@ module _ (file t : List ℕ) (W H : ℕ) (good : Good file W H) (out : List ℤ)
         none)
         (subst (λ r. SliceMeets (read_grid_outcome (contains grid) t no_table out) r after) (sym er)
         (subst (λ s. SliceMeets (read_grid_outcome (contains grid) t no_table out) (refused 21) s) (sym ea)
-        (slice-refused
-        (ap (λ b. cause 2 (not b) or_else 21 or_else length_cause (slots W H) out) (sym whole)) (λ z. omega arith) _ _
-        out)))
+        (slice-refused Causes.TheVariants.NoTable
+        (ap (λ b. cause 2 (not b) or_else 21 or_else length_cause (slots W H) out) (sym whole)) _ _ out)))
     told-kept r after (inr (N, fit, last, meets)) =
         let cs = slice_of W H (active_in W H (levels_of rows) N) in
         kept (the_table cs) r after

@@ -1,5 +1,6 @@
 -- A grid by its positions, its numbers level by level, and when they are those of a table over regions.
-use Rattle.std.specs.Prelude.{◌≡◌, ◌⊎◌, Bool, true, false, cond, List, ℕ, zero, suc, ◌+◌, ◌*◌, ◌≤◌, ◌<◌, ℤ, pos, nat_abs, length, get_or, drop}
+use Rattle.std.specs.Prelude.{◌≡◌, ◌⊎◌, Bool, true, false, cond, List, ℕ, zero, suc, ◌+◌, ◌*◌, ◌≤◌, ◌<◌, ℤ, pos}
+use Rattle.std.specs.Prelude.{nat_abs, length, get_or, drop, Result, Ok, Err}
 use Rattle.surface.specs.Sheet.{functions}
 use Rattle.surface.specs.Support.{least_under, active}
 use Rattle.surface.specs.Table.{places, slots, slice_of, limit}
@@ -8,18 +9,13 @@ use Rattle.surface.specs.Carry.{carried}
 use Rattle.surface.specs.Fields.{Judged, declined, contains, unless, in_part, number_at, all_within}
 use Rattle.surface.specs.TableFile.{Sides, end_cause}
 use Rattle.surface.specs.Grid.{Grid, numbers_in, grid_field, grid_contents}
-use Rattle.fields.specs.declared.Field as F
-use Rattle.fields.specs.declared.Field.{Field}
+use Rattle.answers.specs.declared.Refusal.{Refusal}
+use Rattle.answers.specs.declared.Sheet.{Sheet}
+use Rattle.answers.specs.Refusals.{number}
 use Rattle.carry.specs.Carried.{next_number}
 use Rattle.coarsening.specs.Coarser.{Backed, Whole}
 
 -- ---- a grid that was judged
-
-abbrev pub sheet_w : List ℕ → ℕ
-sheet_w file = get_or file 3 0
-
-abbrev pub sheet_h : List ℕ → ℕ
-sheet_h file = get_or file 4 0
 
 -- what follows the field of the sides
 abbrev pub numbers_part : ℕ → ℕ → List ℕ → Judged Grid
@@ -37,17 +33,17 @@ pub record Good (file : List ℕ) (W H : ℕ) : Type 0 where
       ≡ contains (record { W = W; H = H; numbers = numbers_in (places W H 3) (drop 8 file) })
 
 -- the numbers' field after that of the sides: what it holds, with nothing after it; or the refusal number
-abbrev pub NumbersJudged : Field → List ℕ → ℕ → ℕ → Type 0
-NumbersJudged (F.TheVariants.Body end) file W H =
+abbrev pub NumbersJudged : Result (Unit {0}) Refusal → List ℕ → ℕ → ℕ → Type 0
+NumbersJudged (Ok u) file W H =
     (length file ≡ 8 + 5 * places W H 3)
     × (all_within (limit 3) (places W H 3) (drop 8 file) ≡ true)
     × (numbers_part W H (drop 5 file)
     ≡ contains (record { W = W; H = H; numbers = numbers_in (places W H 3) (drop 8 file) }))
-NumbersJudged (F.TheVariants.Faulty n) file W H = numbers_part W H (drop 5 file) ≡ declined n
+NumbersJudged (Err e) file W H = numbers_part W H (drop 5 file) ≡ declined (number e)
 
-abbrev pub GridJudged : Field → List ℕ → Type 0
-GridJudged (F.TheVariants.Body end) file = Good file (sheet_w file) (sheet_h file)
-GridJudged (F.TheVariants.Faulty n) file = grid_contents file ≡ declined n
+abbrev pub GridJudged : Result Sheet Refusal → List ℕ → Type 0
+GridJudged (Ok s) file = Good file s.w s.h
+GridJudged (Err e) file = grid_contents file ≡ declined (number e)
 
 -- ---- numbers of all levels
 

@@ -13,10 +13,10 @@ ghost use Rattle.demands.specs.GridPromises.{ReadGridPromise};
 ghost use Rattle.rows.specs.Rows.{levels_of, Nested};
 ghost use Rattle.carry.specs.Carried.{Within};
 ghost use Rattle.coarsening.specs.Coarser.{Stand, finer};
-ghost use Rattle.fromgrid.specs.Converts.{sheet_w, sheet_h, Good, in_rows, RowTold, Agrees};
+ghost use Rattle.fromgrid.specs.Converts.{Good, in_rows, RowTold, Agrees};
 ghost use Rattle.fromgrid.specs.Converts.{OfBody, Levels, NotCarried, AllAgree, FoundAndAgree, Told};
 
-use fields::Field;
+use answers::{Refusal, Sheet};
 
 // Whether row b of the level after `level` is what the numbers of `level` give, at functions whose cut support does not
 // lie in the region of their level.
@@ -78,12 +78,10 @@ fn agrees(
         (finer level body.now fine.now (functions w (level + 1)))) }
 {
     let m = coefficients::functions(h, level + 1);
-    let mut b = 0;
-    while b < m {
+    for b in 0..m {
         if !row_agrees(coarse, body, fine, rows, w, h, level, b) {
             return false;
         }
-        b += 1;
     }
     true
 }
@@ -104,13 +102,9 @@ fn find_levels(
         level1.new level2.new)
         × (result ≡ false → NotCarried w h (levels_of rows.now) body.now) }
 {
-    if !coarsening::back_level(level2, body, level1, rows, w, h, 2) {
-        return false;
-    }
-    if !coarsening::back_level(level1, body, level2, rows, w, h, 1) {
-        return false;
-    }
-    coarsening::back_level(level0, body, level1, rows, w, h, 0)
+    coarsening::back_level(level2, body, level1, rows, w, h, 2)
+        && coarsening::back_level(level1, body, level2, rows, w, h, 1)
+        && coarsening::back_level(level0, body, level1, rows, w, h, 0)
 }
 
 // Whether the numbers of each level agree with those of the level before it.
@@ -130,13 +124,9 @@ fn levels_agree(
         × (result ≡ false → ¬ AllAgree w h (levels_of rows.now) body.now
         level0.now level1.now level2.now) }
 {
-    if !agrees(level0, body, level1, rows, w, h, 0) {
-        return false;
-    }
-    if !agrees(level1, body, level2, rows, w, h, 1) {
-        return false;
-    }
-    agrees(level2, body, level1, rows, w, h, 2)
+    agrees(level0, body, level1, rows, w, h, 0)
+        && agrees(level1, body, level2, rows, w, h, 1)
+        && agrees(level2, body, level1, rows, w, h, 2)
 }
 
 // Finds the numbers of levels 0 to 2, which are 0 before; false where no table carries the grid's.
@@ -155,10 +145,8 @@ fn convert(
         level0.new level1.new level2.new)
         × (result ≡ false → NotCarried w h (levels_of rows.now) body.now) }
 {
-    if !find_levels(level0, level1, level2, body, rows, w, h) {
-        return false;
-    }
-    levels_agree(level0, level1, level2, body, rows, w, h)
+    find_levels(level0, level1, level2, body, rows, w, h)
+        && levels_agree(level0, level1, level2, body, rows, w, h)
 }
 
 // Converts a grid's body over regions, with room for the numbers of levels 0 to 2, all 0.
@@ -171,33 +159,37 @@ fn over_regions(
     level1: &mut [i64],
     level2: &mut [i64],
     numbers_out: &mut [i64],
-) -> answers::Sheet
+) -> Result<Sheet, Refusal>
     requires { OfBody w h body.now × Nested rows.now × (level0.old ≡ replicate (places w h 0) (pos 0))
         × (level1.old ≡ replicate (places w h 1) (pos 0)) × (level2.old ≡ replicate (places w h 2) (pos 0)) }
     ensures { Told w h (levels_of rows.now) body.now numbers_out.old
         (sheet_answer result) numbers_out.new }
 {
     if !convert(level0, level1, level2, body, rows, w, h) {
-        return answers::Sheet::Refused(21);
+        return Err(Refusal::NoTable);
     }
     if numbers_out.len() != coefficients::start(w, h, 4) {
-        return answers::Sheet::Refused(16);
+        return Err(Refusal::OutputLength);
     }
     numbers::write_table(numbers_out, body, level0, level1, level2, rows, w, h);
-    answers::Sheet::Sides { w, h }
+    Ok(Sheet { w, h })
 }
 
-// Converts a grid that was judged over a tree.
-fn over_tree(grid: &[u8], tree: &[u8], numbers_out: &mut [i64]) -> answers::Sheet
-    requires { Good grid.now (sheet_w grid.now) (sheet_h grid.now) }
+// Converts a grid that was judged, of a sheet with these sides, over a tree.
+fn over_tree(
+    grid: &[u8],
+    w: usize,
+    h: usize,
+    tree: &[u8],
+    numbers_out: &mut [i64],
+) -> Result<Sheet, Refusal>
+    requires { Good grid.now w h }
     ensures { ReadGridPromise grid.now tree.now numbers_out.old result
         numbers_out.new }
 {
-    let w = grid[judge::W] as usize;
-    let h = grid[judge::H] as usize;
     let mut rows = [0u32; 96];
     if !quadtree::walk::regions(tree, w, h, &mut rows) {
-        return answers::Sheet::Refused(2);
+        return Err(Refusal::Tree);
     }
     let n0 = coefficients::places(w, h, 0);
     let n1 = coefficients::places(w, h, 1);
@@ -219,13 +211,10 @@ fn over_tree(grid: &[u8], tree: &[u8], numbers_out: &mut [i64]) -> answers::Shee
 
 // Converts a grid to the table over a tree that has its readings, writes its coefficients and returns the sides of the
 // sheet; or refuses and writes nothing.
-pub fn read_grid(grid: &[u8], tree: &[u8], numbers_out: &mut [i64]) -> answers::Sheet
+pub fn read_grid(grid: &[u8], tree: &[u8], numbers_out: &mut [i64]) -> Result<Sheet, Refusal>
     ensures { ReadGridPromise grid.now tree.now numbers_out.old result
         numbers_out.new }
 {
-    let f = judge::judge(grid);
-    match f {
-        Field::Faulty(c) => answers::Sheet::Refused(c),
-        Field::Body(_) => over_tree(grid, tree, numbers_out),
-    }
+    let sides = judge::judge(grid)?;
+    over_tree(grid, sides.w, sides.h, tree, numbers_out)
 }

@@ -12,15 +12,12 @@ pub fn read_row(row: &mut [i64], body: &[u8], fine: &[i64], level: usize, from: 
         × ((k : ℕ) → k < length row.old → get_or row.new k (pos 0)
         ≡ number_of level body.now fine.now (from + k)) }
 {
-    let n = row.len();
-    let mut k = 0;
-    while k < n {
-        row[k] = if level == 2 {
+    for (k, number) in row.iter_mut().enumerate() {
+        *number = if level == 2 {
             fields::number::read(body, from + k)
         } else {
             fine[from + k]
         };
-        k += 1;
     }
 }
 
@@ -32,13 +29,10 @@ pub fn same(a: &[i64], b: &[i64]) -> bool
         × (result ≡ false → (k : ℕ) × (k < length a.now)
         × (get_or a.now k (pos 0) ≡ get_or b.now k (pos 0) → ⊥)) }
 {
-    let n = a.len();
-    let mut k = 0;
-    while k < n {
-        if a[k] != b[k] {
+    for (k, number) in a.iter().enumerate() {
+        if *number != b[k] {
             return false;
         }
-        k += 1;
     }
     true
 }

@@ -5,6 +5,8 @@
 ghost use Rattle.demands.specs.Promises.{EnquirePromise, CommitPromise};
 ghost use Rattle.answers.specs.Answers.{slip_told};
 
+use answers::{Refusal, Slip};
+
 // What the insertion of the box with corners (u0, v0) and (u1, v1) at a level would give, as a slip.
 pub fn enquire(
     w: usize,
@@ -16,20 +18,17 @@ pub fn enquire(
     u1: usize,
     v1: usize,
     level: usize,
-) -> answers::Enquiry
+) -> Result<Slip, Refusal>
     ensures { EnquirePromise w h (record { tree = tree.now; numbers = numbers.now })
         (record { box = record { u0 = u0; v0 = v0; u1 = u1; v1 = v1 }; level = level }) result }
 {
     let mut rows = [0u32; 96];
     let b = boxes::Box { u0, v0, u1, v1 };
-    let cause = refinement::refinement_cause(w, h, tree, numbers, b, level, &mut rows);
-    if cause != 0 {
-        return answers::Enquiry::Refused(cause);
-    }
+    refinement::refinement_cause(w, h, tree, numbers, b, level, &mut rows)?;
     let mut built = [0u8; 1365];
     let n = regions::insert(&mut rows, b, level, &mut built);
     let slip = slip::slip_of(w, h, &rows, &built[0..n], b, level);
-    answers::Enquiry::Given(slip)
+    Ok(slip)
 }
 
 // Inserts the slip's box if the slip is the one that the table gives: each quarter square in the box gets the greater
@@ -39,10 +38,10 @@ pub fn commit(
     h: usize,
     tree: &[u8],
     numbers: &[i64],
-    slip: answers::Slip,
+    slip: Slip,
     tree_out: &mut [u8],
     numbers_out: &mut [i64],
-) -> answers::Length
+) -> Result<usize, Refusal>
     ensures { CommitPromise w h (record { tree = tree.now; numbers = numbers.now })
         (record {
           slip = slip_told slip;
@@ -59,16 +58,13 @@ pub fn commit(
         v1: slip.v1,
     };
     let level = slip.level;
-    let cause = refinement::refinement_cause(w, h, tree, numbers, b, level, &mut rows);
-    if cause != 0 {
-        return answers::Length::Refused(cause);
-    }
+    refinement::refinement_cause(w, h, tree, numbers, b, level, &mut rows)?;
     let mut new = rows;
     let mut built = [0u8; 1365];
     let n = regions::insert(&mut new, b, level, &mut built);
     let own = slip::slip_of(w, h, &new, &built[0..n], b, level);
     if !slip::same(slip, own) {
-        return answers::Length::Refused(19);
+        return Err(Refusal::Slip);
     }
     refinement::write_refined(
         w,

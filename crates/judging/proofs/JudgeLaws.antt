@@ -1,5 +1,6 @@
 -- What the judged parts say of the file, one law for each way out of the judging functions.
-use mathlib.Core.Path.{◌≡◌, sym, ap, ap₂, ◌∙◌, subst, fun_ext}
+use Rattle.std.specs.Prelude.{Result, Ok, Err}
+use mathlib.Core.Path.{◌≡◌, refl, sym, ap, ap₂, ◌∙◌, subst, fun_ext}
 use mathlib.Core.Bool.{Bool, true, not, cond}
 use mathlib.Core.List.{List, [], ◌++◌}
 use Prim.Native.Nat.{ℕ, zero, suc, ◌+◌, ◌-◌, ◌*◌, ◌≤◌, ◌<◌}
@@ -8,7 +9,7 @@ use native.Mathlib.Numerals.{add-one}
 use native.Mathlib.Omega.{arith}
 use lib.Dec.{eqb}
 use lib.IntN.{ℤ, pos}
-use lib.ListN.{length, drop}
+use lib.ListN.{drop}
 use lib.Seq.{get_or-drop, get_or-take}
 use Rattle.finite.specs.Range.{count, total, grid}
 use Rattle.finite.proofs.Tests.{both}
@@ -16,37 +17,35 @@ use Rattle.surface.specs.Sheet.{good_side, functions}
 use Rattle.surface.specs.Support.{active, active_in_row, active_count, active_before}
 use Rattle.surface.specs.Table.{cause, levels, limit}
 use Rattle.surface.specs.Fields.{declined, unless, holds, in_part, field, checked, number_at, all_within}
-use Rattle.surface.specs.TableFile.{sides_in, good_sides, sides_field, counts_field, level_loaded, level_field}
+use Rattle.surface.specs.TableFile.{sides_in, good_sides, sides_field, tree_field, counts_field, level_loaded}
+use Rattle.surface.specs.TableFile.{level_field}
 use Rattle.surface.specs.TableFile.{level_fields, file_contents}
 use Rattle.surface.proofs.TableLaws.{good-side}
 use Rattle.tablefile.proofs.CountsField.{counts-field-cong}
-use Rattle.fields.specs.declared.Field as F
-use Rattle.fields.specs.declared.Field.{Field}
+use Rattle.answers.specs.declared.Refusal.{Refusal}
+use Rattle.answers.specs.Refusals.{number}
 use Rattle.fields.specs.Positions.{body_at, part_at, ends}
 use Rattle.fields.proofs.PositionLaws.{checked-faulty, checked-told}
 use Rattle.rows.specs.Rows.{levels_of, level_rows}
 use Rattle.rows.proofs.RowLaws.{rows-nested, rows-least, rows-count}
-use Rattle.judging.specs.Judged.{sheet_w, sheet_h, sides_of, tree_in, tree_judged, last_judged, head_judged, ends_at}
-use Rattle.judging.specs.Judged.{judged_as}
+use Rattle.judging.specs.Judged.{sheet_w, sheet_h, sides_of, tree_in, SidesStand, tree_judged, last_judged}
+use Rattle.judging.specs.Judged.{head_judged, ends_at}
 
 -- ---- the sides
 
-module _ (file : List ℕ) (r : Field) (e : part_at r file (body_at file 0) ≡ field 1 2 2 file) where
-  pub sides-faulty : (rows : List ℕ) (c : ℕ) → r ≡ F.TheVariants.Faulty c → head_judged r file rows
-  unfolding file_contents sides_field
-  sides-faulty rows c q =
-      let k = checked-faulty 1 2 2 1 (λ b. good_sides (sides_in b)) sides_in file 0 r e c q in
-      subst (λ r. head_judged r file rows) (sym q) (rw k)
+module _ (file : List ℕ) where
+  pub sides-faulty : (e : Refusal) → declined (number e) ≡ field 1 2 2 file → sides_field file ≡ declined (number e)
+  unfolding sides_field
+  sides-faulty e q = checked-faulty 1 2 2 1 (λ b. good_sides (sides_in b)) sides_in file 0 (Err e) q e refl
 
-  module _ (end : ℕ) (q : r ≡ F.TheVariants.Body end) (k : ends r file 0 2 2) where
-    pub sides-size : (end ≡ 5) × (5 ≤ length file)
-    sides-size =
-        let b : ends (F.TheVariants.Body end) file 0 2 2 = subst (λ r. ends r file 0 2 2) q k in
-        (omega (arith, b.0, b.1), omega (arith, b.0, b.2))
+  module _ (end : ℕ) (e : part_at (Ok end) file (body_at file 0) ≡ field 1 2 2 file)
+      (k : ends (Ok end) file 0 2 2) where
+    sides-end : end ≡ 5
+    sides-end = omega (arith, k.0, k.1)
 
     sides-here : sides_in (body_at file 0 end) ≡ sides_of file
     sides-here =
-        ap (λ n. sides_in (body_at file 0 n)) sides-size.0
+        ap (λ n. sides_in (body_at file 0 n)) sides-end
         ∙ ap₂ (λ W H. record { W = W; H = H })
         (get_or-take 2 (drop 3 file) 0 0 (omega arith) ∙ get_or-drop 3 file 0 0)
         (get_or-take 2 (drop 3 file) 1 0 (omega arith) ∙ get_or-drop 3 file 1 0)
@@ -56,18 +55,20 @@ module _ (file : List ℕ) (r : Field) (e : part_at r file (body_at file 0) ≡ 
         → sides_field file ≡ unless (cause 1 (not t)) (holds (sides_of file) (drop 5 file))
     unfolding sides_field
     sides-told t u =
-        checked-told 1 2 2 1 (λ b. good_sides (sides_in b)) sides_in file 0 r e end q t
+        checked-told 1 2 2 1 (λ b. good_sides (sides_in b)) sides_in file 0 (Ok end) e end refl t
         (u ∙ ap good_sides (sym sides-here))
-        ∙ ap₂ (λ s n. unless (cause 1 (not t)) (holds s (drop n file))) sides-here sides-size.0
+        ∙ ap₂ (λ s n. unless (cause 1 (not t)) (holds s (drop n file))) sides-here sides-end
 
-pub sides-bad : (file : List ℕ) → sides_field file ≡ declined 1 → file_contents file ≡ declined 1
-unfolding file_contents
-sides-bad file e = rw e
-
-pub small-sides : (file : List ℕ) → good_sides (sides_of file) ≡ true → (sheet_w file ≤ 8) × (sheet_h file ≤ 8)
-small-sides file e =
-    let k = both (good_side (sheet_w file)) (good_side (sheet_h file)) e in
-    ((good-side (sheet_w file) k.0).1, (good-side (sheet_h file) k.1).1)
+    pub sides-stand : true ≡ good_sides (sides_of file) → SidesStand file (sheet_w file) (sheet_h file)
+    sides-stand u =
+        let g = both (good_side (sheet_w file)) (good_side (sheet_h file)) (sym u) in
+        record {
+          here = (refl, refl);
+          side-W = good-side (sheet_w file) g.0;
+          side-H = good-side (sheet_h file) g.1;
+          size = omega (arith, k.0, k.2);
+          field = sides-told true u;
+        }
 
 -- ---- the levels by the rows of a tree
 
@@ -103,32 +104,42 @@ module _ (t rows : List ℕ) (e : rows ≡ level_rows t) (W H : ℕ) (hW : W ≤
 
 -- ---- both fields
 
-pub head-told : (file rows : List ℕ) → good_sides (sides_of file) ≡ true
-    → sides_field file ≡ holds (sides_of file) (drop 5 file) → (r : Field)
-    → tree_judged r file (sheet_w file) (sheet_h file) rows → head_judged r file rows
+pub head-faulty : (file : List ℕ) (c : ℕ) → sides_field file ≡ declined c → file_contents file ≡ declined c
 unfolding file_contents
-head-told file rows g s (F.TheVariants.Faulty c) k = rw (s, k)
-head-told file rows g s (F.TheVariants.Body end) k =
-    let small = small-sides file g in
-    let W = sheet_w file in
-    let H = sheet_h file in
-    let t = tree_in file end in
-    record {
-      small-W = small.0;
-      small-H = small.1;
-      low = k.0;
-      size = k.1;
-      nested = rw k.2 (rows-nested (levels (tree_in file end)));
-      contents =
-          rw (s, k.3)
-          (ap₂ (λ j f. in_part j λ counts rest. in_part (f rest) (last_judged W H t))
-          (sym (same-counts t rows k.2 W H small.0 small.1 (drop end file)))
-          (fun_ext λ rest. sym (same-levels t rows k.2 W H small.0 small.1 4 rest)));
-    }
+head-faulty file c e = rw e
+
+module _ (file rows : List ℕ) where
+  pub head-told : (W H : ℕ) → SidesStand file W H → (r : Result ℕ Refusal) → tree_judged r file W H rows
+      → head_judged r file rows
+  unfolding file_contents
+  head-told W H s (Err e) k =
+      let here : tree_field (sheet_w file) (sheet_h file) (drop 5 file) ≡ declined (number e) =
+      ap₂ (λ W H. tree_field W H (drop 5 file)) (sym s.here.0) (sym s.here.1) ∙ k in
+      rw (s.field, here)
+  head-told W H s (Ok end) k =
+      let w = sheet_w file in
+      let h = sheet_h file in
+      let t = tree_in file end in
+      let small-W : w ≤ 8 = subst (λ W. W ≤ 8) s.here.0 s.side-W.1 in
+      let small-H : h ≤ 8 = subst (λ H. H ≤ 8) s.here.1 s.side-H.1 in
+      let here : tree_field w h (drop 5 file) ≡ holds t (drop end file) =
+      ap₂ (λ W H. tree_field W H (drop 5 file)) (sym s.here.0) (sym s.here.1) ∙ k.3 in
+      record {
+        small-W = small-W;
+        small-H = small-H;
+        low = k.0;
+        size = k.1;
+        nested = rw k.2 (rows-nested (levels t));
+        contents =
+            rw (s.field, here)
+            (ap₂ (λ j f. in_part j λ counts rest. in_part (f rest) (last_judged w h t))
+            (sym (same-counts t rows k.2 w h small-W small-H (drop end file)))
+            (fun_ext λ rest. sym (same-levels t rows k.2 w h small-W small-H 4 rest)));
+      }
 
 -- ---- a level
 
-module _ (W H : ℕ) (lev : ℕ → ℕ → ℕ) (L : ℕ) (file : List ℕ) (at : ℕ) (r : Field) (n : ℕ)
+module _ (W H : ℕ) (lev : ℕ → ℕ → ℕ) (L : ℕ) (file : List ℕ) (at : ℕ) (r : Result ℕ Refusal) (n : ℕ)
     (s : n ≡ active_count W H lev L)
     (e : part_at r file (body_at file at) ≡ field (16 + L) (5 * n) (5 * n) (drop at file)) where
   -- the field with its contents, by the count that was found
@@ -137,15 +148,13 @@ module _ (W H : ℕ) (lev : ℕ → ℕ → ℕ) (L : ℕ) (file : List ℕ) (at
   unfolding level_field
   by_count = rw s
 
-  pub level-faulty : (c : ℕ) → r ≡ F.TheVariants.Faulty c → judged_as r file (level_field W H lev L (drop at file))
+  pub level-faulty : (c : Refusal) → r ≡ Err c → level_field W H lev L (drop at file) ≡ declined (number c)
   level-faulty c q =
-      subst (λ r. judged_as r file (level_field W H lev L (drop at file))) (sym q)
-      (sym by_count
-      ∙ checked-faulty (16 + L) (5 * n) (5 * n) 4 (all_within (limit L) n) (level_loaded W H lev L) file at r e c q)
+      sym by_count
+      ∙ checked-faulty (16 + L) (5 * n) (5 * n) 4 (all_within (limit L) n) (level_loaded W H lev L) file at r e c q
 
   -- by the test of its numbers
-  pub level-told : (end : ℕ) → r ≡ F.TheVariants.Body end → (t : Bool)
-      → t ≡ all_within (limit L) n (body_at file at end)
+  pub level-told : (end : ℕ) → r ≡ Ok end → (t : Bool) → t ≡ all_within (limit L) n (body_at file at end)
       → level_field W H lev L (drop at file)
       ≡ unless (cause 4 (not t)) (holds (level_loaded W H lev L (body_at file at end)) (drop end file))
   level-told end q t u =
@@ -175,20 +184,14 @@ module _ (W H : ℕ) (lev : ℕ → ℕ → ℕ) (s : List ℕ) where
   declined-next L c before mid e f = rw (e, f)
 
   -- the level at a position, judged after those below it: all four are declined with it, or one more stands
-  module _ (file : List ℕ) (at L : ℕ) (k : ends_at file at (level_fields W H lev L s)) (r : Field)
-      (j : judged_as r file (level_field W H lev L (drop at file))) where
-    known : (q : Field) → r ≡ q → judged_as q file (level_field W H lev L (drop at file))
-    known q e = subst (λ r. judged_as r file (level_field W H lev L (drop at file))) e j
-
-    pub levels-faulty : (c : ℕ) → r ≡ F.TheVariants.Faulty c → L < 4 → judged_as r file (level_fields W H lev 4 s)
+  module _ (file : List ℕ) (at L : ℕ) (k : ends_at file at (level_fields W H lev L s)) where
+    pub levels-faulty : (c : ℕ) → level_field W H lev L (drop at file) ≡ declined c → L < 4
+        → level_fields W H lev 4 s ≡ declined c
     levels-faulty c q h =
         let all : 3 - L + suc L ≡ 4 = omega arith in
-        subst (λ r. judged_as r file (level_fields W H lev 4 s)) (sym q)
-        (subst (λ n. level_fields W H lev n s ≡ declined c) all
-        (declined-on c (3 - L) (suc L)
-        (declined-next L c k.1.0 (drop at file) k.1.1 (known (F.TheVariants.Faulty c) q))))
+        subst (λ n. level_fields W H lev n s ≡ declined c) all
+        (declined-on c (3 - L) (suc L) (declined-next L c k.1.0 (drop at file) k.1.1 q))
 
-    pub levels-good : (end : ℕ) → r ≡ F.TheVariants.Body end → ends_at file end (level_fields W H lev (L + 1) s)
-    levels-good end q =
-        let b : ends_at file end (level_field W H lev L (drop at file)) = known (F.TheVariants.Body end) q in
-        (b.0, (_, levels-next L k.1.0 b.1.0 (drop at file) (drop end file) k.1.1 b.1.1))
+    pub levels-good : (end : ℕ) → ends_at file end (level_field W H lev L (drop at file))
+        → ends_at file end (level_fields W H lev (L + 1) s)
+    levels-good end b = (b.0, (_, levels-next L k.1.0 b.1.0 (drop at file) (drop end file) k.1.1 b.1.1))

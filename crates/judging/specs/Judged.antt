@@ -1,14 +1,17 @@
 -- What a judged part of a file says of the file, by positions.
-use Rattle.std.specs.Prelude.{◌≡◌, true, cond, List, [], ℕ, zero, suc, ◌+◌, ◌-◌, ◌≤◌, ◌<◌, ltb, ℤ, length, get_or, take, drop}
+use Rattle.std.specs.Prelude.{◌≡◌, true, cond, List, [], ℕ, zero, suc, ◌+◌, ◌-◌, ◌≤◌, ◌<◌, ltb, ℤ, length, get_or}
+use Rattle.std.specs.Prelude.{take, drop, Result, Ok, Err}
 use Rattle.surface.specs.Support.{active_count}
 use Rattle.surface.specs.Table.{cause, ◌or_else◌, slots}
 use Rattle.surface.specs.Calls.{length_cause}
 use Rattle.surface.specs.Fields.{Judged, declined, contains, unless, Part, holds, in_part}
 use Rattle.surface.specs.Note.{Note, none, noted, note_field, NotePart, no_part}
-use Rattle.surface.specs.TableFile.{Sides, tree_field, counts_field, level_fields, File, end_cause, file_contents}
+use Rattle.surface.specs.TableFile.{Sides, sides_field, tree_field, counts_field, level_fields, File, end_cause}
+use Rattle.surface.specs.TableFile.{file_contents}
+use Rattle.answers.specs.declared.Refusal.{Refusal}
+use Rattle.answers.specs.declared.Sheet.{Sheet}
+use Rattle.answers.specs.Refusals.{number}
 use Rattle.fields.specs.Positions.{body_at}
-use Rattle.fields.specs.declared.Field as F
-use Rattle.fields.specs.declared.Field.{Field}
 use Rattle.rows.specs.Rows.{levels_of, Nested, level_rows}
 
 -- ---- where things stand in a file: the sides after the first head, the tree after the second
@@ -28,14 +31,26 @@ tree_in file end = take (end - 8) (drop 8 file)
 
 -- ---- the sides and the tree
 
+-- the sides that stand after the first head are good
+pub record SidesStand (file : List ℕ) (W H : ℕ) : Type 0 where
+  pub here : (W ≡ sheet_w file) × (H ≡ sheet_h file)
+  pub side-W : (0 < W) × (W ≤ 8)
+  pub side-H : (0 < H) × (H ≤ 8)
+  pub size : 5 ≤ length file
+  pub field : sides_field file ≡ holds (sides_of file) (drop 5 file)
+
+abbrev pub sides_judged : Result Sheet Refusal → List ℕ → Type 0
+sides_judged (Ok s) file = SidesStand file s.w s.h
+sides_judged (Err e) file = sides_field file ≡ declined (number e)
+
 -- the field of the tree after that of the sides, and the rows of the tree
-abbrev pub tree_judged : Field → List ℕ → ℕ → ℕ → List ℕ → Type 0
-tree_judged (F.TheVariants.Body end) file W H rows =
+abbrev pub tree_judged : Result ℕ Refusal → List ℕ → ℕ → ℕ → List ℕ → Type 0
+tree_judged (Ok end) file W H rows =
     (8 ≤ end)
     × (end ≤ length file)
     × (rows ≡ level_rows (tree_in file end))
     × (tree_field W H (drop 5 file) ≡ holds (tree_in file end) (drop end file))
-tree_judged (F.TheVariants.Faulty c) file W H rows = tree_field W H (drop 5 file) ≡ declined c
+tree_judged (Err e) file W H rows = tree_field W H (drop 5 file) ≡ declined (number e)
 
 -- what follows the levels of a file with this sheet and tree
 abbrev pub last_judged : ℕ → ℕ → List ℕ → List ℤ → List ℕ → File
@@ -54,9 +69,9 @@ pub record Front (file : List ℕ) (end W H : ℕ) (rows : List ℕ) : Type 0 wh
       ≡ in_part (counts_field (active_count W H (levels_of rows)) (drop end file)) λ counts rest.
       in_part (level_fields W H (levels_of rows) 4 rest) (last_judged W H (tree_in file end))
 
-abbrev pub head_judged : Field → List ℕ → List ℕ → Type 0
-head_judged (F.TheVariants.Body end) file rows = Front file end (sheet_w file) (sheet_h file) rows
-head_judged (F.TheVariants.Faulty c) file rows = file_contents file ≡ declined c
+abbrev pub head_judged : Result ℕ Refusal → List ℕ → List ℕ → Type 0
+head_judged (Ok end) file rows = Front file end (sheet_w file) (sheet_h file) rows
+head_judged (Err e) file rows = file_contents file ≡ declined (number e)
 
 -- ---- the counts
 
@@ -82,13 +97,13 @@ abbrev pub ends_at : {A : Type 0} → List ℕ → ℕ → Judged (Part A) → T
 ends_at {A} file end j = (end ≤ length file) × ((a : A) × (j ≡ holds a (drop end file)))
 
 -- a body ends in the file
-abbrev pub inside : Field → List ℕ → Type 0
-inside (F.TheVariants.Body end) file = end ≤ length file
-inside (F.TheVariants.Faulty c) file = Unit {0}
+abbrev pub inside : Result ℕ Refusal → List ℕ → Type 0
+inside (Ok end) file = end ≤ length file
+inside (Err e) file = Unit {0}
 
-abbrev pub judged_as : {A : Type 0} → Field → List ℕ → Judged (Part A) → Type 0
-judged_as (F.TheVariants.Body end) file j = ends_at file end j
-judged_as (F.TheVariants.Faulty c) file j = j ≡ declined c
+abbrev pub judged_as : {A : Type 0} → Result ℕ Refusal → List ℕ → Judged (Part A) → Type 0
+judged_as (Ok end) file j = ends_at file end j
+judged_as (Err e) file j = j ≡ declined (number e)
 
 -- the levels that stand from a position on hold these coefficients
 abbrev pub levels_hold : List ℕ → ℕ → ℕ → ℕ → List ℕ → List ℤ → Type 0
@@ -102,13 +117,13 @@ abbrev pub note_at : List ℕ → ℕ → ℕ → Note
 note_at file at end = cond (ltb at end) (noted (body_at file at end)) none
 
 -- the field of the note at a position ends before another, and has a whole head; or a refusal
-abbrev pub note_judged : Field → List ℕ → ℕ → Type 0
-note_judged (F.TheVariants.Body end) file at =
+abbrev pub note_judged : Result ℕ Refusal → List ℕ → ℕ → Type 0
+note_judged (Ok end) file at =
     (end ≤ length file)
     × (at ≤ end)
     × (at < end → at + 3 ≤ end)
     × (note_field (drop at file) ≡ holds (note_at file at end) (drop end file))
-note_judged (F.TheVariants.Faulty c) file at = ¬ (c ≡ 0) × (note_field (drop at file) ≡ declined c)
+note_judged (Err e) file at = note_field (drop at file) ≡ declined (number e)
 
 -- what follows the levels, by its cause: a note or nothing up to the end of the file, or a refusal
 abbrev pub EndJudged : ℕ → List ℕ → ℕ → Type 0

@@ -3,6 +3,14 @@ ghost use Rattle.std.specs.Prelude.{ltb};
 ghost use Rattle.surface.specs.Note.{lent_note};
 ghost use Rattle.demands.specs.FilePromises.{KilnReadPromise, KilnBenchPromise, KilnWritePromise};
 
+use answers::Note;
+
+// The part of a file that is told for a note where none stands.
+const NO_NOTE: Note = Note {
+    offset: 0,
+    length: 0,
+};
+
 // Loads a table file; `tree_length`, `w` and `h` receive the tree's length and the sides.
 #[unsafe(no_mangle)]
 pub extern "C" fn kiln_read_file(
@@ -18,19 +26,14 @@ pub extern "C" fn kiln_read_file(
         w.old w.new h.old h.new
         tree_out.new numbers_out.new }
 {
-    let r = loading::read_file(file, tree_out, numbers_out);
-    match r {
-        answers::File::Loaded {
-            length: n,
-            w: wide,
-            h: high,
-        } => {
-            *tree_length = n;
-            *w = wide;
-            *h = high;
+    match loading::read_file(file, tree_out, numbers_out) {
+        Ok(loaded) => {
+            *tree_length = loaded.length;
+            *w = loaded.w;
+            *h = loaded.h;
             0
         }
-        answers::File::Refused(n) => n,
+        Err(refusal) => refusal.number(),
     }
 }
 
@@ -55,24 +58,18 @@ pub extern "C" fn kiln_read_bench(
         note_length.old note_length.new
         tree_out.new numbers_out.new }
 {
-    let r = loading::read_bench(file, tree_out, numbers_out);
-    let note = r.note;
-    let f = r.file;
-    match f {
-        answers::File::Loaded {
-            length: n,
-            w: wide,
-            h: high,
-        } => {
-            *tree_length = n;
-            *w = wide;
-            *h = high;
-            *noted = super::flag::bit(note.stands);
+    match loading::read_bench(file, tree_out, numbers_out) {
+        Ok(bench) => {
+            *tree_length = bench.loaded.length;
+            *w = bench.loaded.w;
+            *h = bench.loaded.h;
+            *noted = bench.note.is_some() as u8;
+            let note = bench.note.unwrap_or(NO_NOTE);
             *note_offset = note.offset;
             *note_length = note.length;
             0
         }
-        answers::File::Refused(n) => n,
+        Err(refusal) => refusal.number(),
     }
 }
 
@@ -92,12 +89,7 @@ pub extern "C" fn kiln_write_file(
         (lent_note (ltb 0 noted) note.now) file_out.old result
         length.old length.new file_out.new }
 {
-    let r = saving::write_file(w, h, tree, numbers, 0 < noted, note, file_out);
-    match r {
-        answers::Length::Bytes(n) => {
-            *length = n;
-            0
-        }
-        answers::Length::Refused(n) => n,
-    }
+    let lent = if 0 < noted { Some(note) } else { None };
+    let answer = saving::write_file(w, h, tree, numbers, lent, file_out);
+    super::code::told(answer, length)
 }

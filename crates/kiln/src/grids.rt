@@ -14,14 +14,7 @@ pub extern "C" fn kiln_write_grid(
     ensures { KilnWriteGridPromise w h (record { tree = tree.now; numbers = numbers.now })
         grid_out.old result length.old length.new grid_out.new }
 {
-    let r = togrid::write_grid(w, h, tree, numbers, grid_out);
-    match r {
-        answers::Length::Bytes(n) => {
-            *length = n;
-            0
-        }
-        answers::Length::Refused(n) => n,
-    }
+    super::code::told(togrid::write_grid(w, h, tree, numbers, grid_out), length)
 }
 
 // Converts a grid over a tree to the coefficients of a table; `w` and `h` receive the sides.
@@ -36,13 +29,12 @@ pub extern "C" fn kiln_read_grid(
     ensures { KilnReadGridPromise grid.now tree.now numbers_out.old result
         w.old w.new h.old h.new numbers_out.new }
 {
-    let r = fromgrid::read_grid(grid, tree, numbers_out);
-    match r {
-        answers::Sheet::Sides { w: wide, h: high } => {
-            *w = wide;
-            *h = high;
+    match fromgrid::read_grid(grid, tree, numbers_out) {
+        Ok(sheet) => {
+            *w = sheet.w;
+            *h = sheet.h;
             0
         }
-        answers::Sheet::Refused(n) => n,
+        Err(refusal) => refusal.number(),
     }
 }

@@ -3,8 +3,8 @@
 // written where it refuses. What a call writes must not overlap anything else that it is lent.
 #![tactic(auto)]
 
+mod code;
 pub mod files;
-pub mod flag;
 pub mod grids;
 pub mod windows;
 
@@ -16,6 +16,9 @@ ghost use Rattle.surface.specs.Slopes.{slopes_outcome};
 ghost use Rattle.answers.specs.Codes.{code_of, NumberTold, LeastTold, lent_slip, WattsAfter, SlopesAfter};
 ghost use Rattle.answers.specs.Codes.{SliceWritten, TableWritten};
 ghost use Rattle.demands.specs.LinkedPromises.{KilnEnquirePromise, KilnCommitPromise, KilnExactPromise};
+
+use answers::Slip;
+use code::{code, told};
 
 // The levels under a box: `least` receives the least and `greatest` the greatest, `visited` the number of tree nodes
 // visited.
@@ -37,19 +40,14 @@ pub extern "C" fn kiln_least_level(
         least.old least.new greatest.old greatest.new
         visited.old visited.new }
 {
-    let r = query::least_level(w, h, tree, u0, v0, u1, v1);
-    match r {
-        answers::Least::Levels {
-            least: l,
-            greatest: g,
-            visited: n,
-        } => {
-            *least = l;
-            *greatest = g;
-            *visited = n;
+    match query::least_level(w, h, tree, u0, v0, u1, v1) {
+        Ok(found) => {
+            *least = found.least;
+            *greatest = found.greatest;
+            *visited = found.visited;
             0
         }
-        answers::Least::Refused(n) => n,
+        Err(refusal) => refusal.number(),
     }
 }
 
@@ -59,11 +57,7 @@ pub extern "C" fn kiln_activity(w: usize, h: usize, tree: &[u8], level: usize, o
     ensures { SliceWritten (activity_outcome w h tree.now level out.old) result
         out.new }
 {
-    let r = query::activity_of(w, h, tree, level, out);
-    match r {
-        answers::Outcome::Done => 0,
-        answers::Outcome::Refused(n) => n,
-    }
+    code(query::activity_of(w, h, tree, level, out))
 }
 
 // Writes a fresh table; `tree_length` receives the tree's length.
@@ -81,14 +75,10 @@ pub extern "C" fn kiln_fresh(
         tree_length.old tree_length.new
         tree_out.new numbers_out.new }
 {
-    let r = edit::fresh(w, h, number, tree_out, numbers_out);
-    match r {
-        answers::Length::Bytes(n) => {
-            *tree_length = n;
-            0
-        }
-        answers::Length::Refused(n) => n,
-    }
+    told(
+        edit::fresh(w, h, number, tree_out, numbers_out),
+        tree_length,
+    )
 }
 
 // Enquires what inserting a box at a level would give: `slip_length` receives the new tree's length, `slip_active` the
@@ -114,15 +104,14 @@ pub extern "C" fn kiln_enquire(
         slip_active.old slip_active.new
         slip_visited.old slip_visited.new }
 {
-    let r = insertion::enquire(w, h, tree, numbers, u0, v0, u1, v1, level);
-    match r {
-        answers::Enquiry::Given(slip) => {
+    match insertion::enquire(w, h, tree, numbers, u0, v0, u1, v1, level) {
+        Ok(slip) => {
             *slip_length = slip.length;
             *slip_active = [slip.active0, slip.active1, slip.active2, slip.active3];
             *slip_visited = slip.visited;
             0
         }
-        answers::Enquiry::Refused(n) => n,
+        Err(refusal) => refusal.number(),
     }
 }
 
@@ -155,7 +144,7 @@ pub extern "C" fn kiln_commit(
         tree_length.old tree_length.new
         tree_out.new numbers_out.new }
 {
-    let slip = answers::Slip {
+    let slip = Slip {
         u0,
         v0,
         u1,
@@ -168,14 +157,8 @@ pub extern "C" fn kiln_commit(
         active3: slip_active[3],
         visited: slip_visited,
     };
-    let r = insertion::commit(w, h, tree, numbers, slip, tree_out, numbers_out);
-    match r {
-        answers::Length::Bytes(n) => {
-            *tree_length = n;
-            0
-        }
-        answers::Length::Refused(n) => n,
-    }
+    let length = insertion::commit(w, h, tree, numbers, slip, tree_out, numbers_out);
+    told(length, tree_length)
 }
 
 // Sets the coefficient of an active function of a level.
@@ -193,11 +176,7 @@ pub extern "C" fn kiln_set(
     ensures { SliceWritten
         (set_outcome w h tree.now numbers.old level i j number) result numbers.new }
 {
-    let r = edit::set(w, h, tree, numbers, level, i, j, number);
-    match r {
-        answers::Outcome::Done => 0,
-        answers::Outcome::Refused(n) => n,
-    }
+    code(edit::set(w, h, tree, numbers, level, i, j, number))
 }
 
 // The lowest of causes 1 to 5 that applies to a table, 0 for an acceptable one.
@@ -205,7 +184,7 @@ pub extern "C" fn kiln_set(
 pub extern "C" fn kiln_table_cause(w: usize, h: usize, tree: &[u8], numbers: &[i64]) -> u8
     ensures { result ≡ table_cause w h tree.now numbers.now }
 {
-    table::cause::table_cause(w, h, tree, numbers)
+    code(table::cause::table_cause(w, h, tree, numbers))
 }
 
 // The exact reading: `numerator` receives its numerator over D.
@@ -222,14 +201,7 @@ pub extern "C" fn kiln_exact(
     ensures { KilnExactPromise w h (record { tree = tree.now; numbers = numbers.now }) u v result
         numerator.old numerator.new }
 {
-    let r = readings::exact(w, h, tree, numbers, u, v);
-    match r {
-        answers::Exact::Numerator(x) => {
-            *numerator = x;
-            0
-        }
-        answers::Exact::Refused(n) => n,
-    }
+    told(readings::exact(w, h, tree, numbers, u, v), numerator)
 }
 
 // The reading as an f64: `watts` receives it.
@@ -247,14 +219,7 @@ pub extern "C" fn kiln_watts(
         × WattsAfter (exact_outcome w h tree.now numbers.now u v)
         watts.old watts.new }
 {
-    let r = readings::watts(w, h, tree, numbers, u, v);
-    match r {
-        answers::Reading::Watts(x) => {
-            *watts = x;
-            0
-        }
-        answers::Reading::Refused(n) => n,
-    }
+    told(readings::watts(w, h, tree, numbers, u, v), watts)
 }
 
 // The watts and both slopes: `watts`, `along_u` and `along_v` receive them.
@@ -275,15 +240,14 @@ pub extern "C" fn kiln_slopes(
         (record { watts = watts.old; along_u = along_u.old; along_v = along_v.old })
         (record { watts = watts.new; along_u = along_u.new; along_v = along_v.new }) }
 {
-    let r = readings::slopes(w, h, tree, numbers, u, v);
-    match r {
-        answers::Slopes::Given(x) => {
+    match readings::slopes(w, h, tree, numbers, u, v) {
+        Ok(x) => {
             *watts = x.watts;
             *along_u = x.along_u;
             *along_v = x.along_v;
             0
         }
-        answers::Slopes::Refused(n) => n,
+        Err(refusal) => refusal.number(),
     }
 }
 
@@ -301,14 +265,7 @@ pub extern "C" fn kiln_display(
     ensures { NumberTold (display_outcome w h tree.now numbers.now u v) result
         watts.old watts.new }
 {
-    let r = readings::display(w, h, tree, numbers, u, v);
-    match r {
-        answers::Display::Watts(x) => {
-            *watts = x;
-            0
-        }
-        answers::Display::Refused(n) => n,
-    }
+    told(readings::display(w, h, tree, numbers, u, v), watts)
 }
 
 // The cost per hour: `cost` receives hundredths of a cent.
@@ -326,12 +283,5 @@ pub extern "C" fn kiln_cost(
     ensures { NumberTold (cost_outcome w h tree.now numbers.now u v tariff) result
         cost.old cost.new }
 {
-    let r = readings::cost(w, h, tree, numbers, u, v, tariff);
-    match r {
-        answers::Cost::Hundredths(x) => {
-            *cost = x;
-            0
-        }
-        answers::Cost::Refused(n) => n,
-    }
+    told(readings::cost(w, h, tree, numbers, u, v, tariff), cost)
 }

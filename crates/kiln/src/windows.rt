@@ -1,6 +1,8 @@
 // The calls of a window over a run of records, for other languages.
 ghost use Rattle.demands.specs.WindowPromises.{KilnRecordPromise, KilnFiguresPromise};
 
+use answers::WindowState;
+
 // Adds a record to a window; `held` and `oldest` are the state that it is handed, and receive the new one.
 #[unsafe(no_mangle)]
 pub extern "C" fn kiln_add_record(
@@ -13,18 +15,17 @@ pub extern "C" fn kiln_add_record(
         (record { held = held.old; oldest = oldest.old }) watts result
         (record { held = held.new; oldest = oldest.new }) window.new }
 {
-    let state = answers::WindowState {
+    let state = WindowState {
         held: *held,
         oldest: *oldest,
     };
-    let r = window::add_record(window, state, watts);
-    match r {
-        answers::Recorded::State(s) => {
-            *held = s.held;
-            *oldest = s.oldest;
+    match window::add_record(window, state, watts) {
+        Ok(next) => {
+            *held = next.held;
+            *oldest = next.oldest;
             0
         }
-        answers::Recorded::Refused(n) => n,
+        Err(refusal) => refusal.number(),
     }
 }
 
@@ -44,24 +45,16 @@ pub extern "C" fn kiln_window_figures(
         total.old total.new missing.old missing.new
         least.old least.new greatest.old greatest.new }
 {
-    let r = window::figures(window, answers::WindowState { held, oldest });
-    match r {
-        answers::Figures::Held {
-            total: sum,
-            least: low,
-            greatest: high,
-        } => {
-            *total = sum;
-            *missing = 0;
-            *least = low;
-            *greatest = high;
+    match window::figures(window, WindowState { held, oldest }) {
+        Ok(figures) => {
+            *total = figures.total;
+            *missing = figures.extremes.is_none() as u8;
+            if let Some(extremes) = figures.extremes {
+                *least = extremes.least;
+                *greatest = extremes.greatest;
+            }
             0
         }
-        answers::Figures::Missing => {
-            *total = 0;
-            *missing = 1;
-            0
-        }
-        answers::Figures::Refused(n) => n,
+        Err(refusal) => refusal.number(),
     }
 }

@@ -1,19 +1,19 @@
 -- The walk of a subtree: where its children stand, and what it finds of a leaf, of a split and of the whole tree.
 use mathlib.Core.Path.{◌≡◌, refl, ap, ◌∙◌}
 use mathlib.Core.Bool.{true, false, cond}
-use mathlib.Core.List.{List, [], ◌∷◌}
+use mathlib.Core.List.{List}
 use Prim.Native.Nat.{ℕ, zero, suc, ◌+◌, ◌/◌, ◌^◌, ◌≤◌, ◌<◌, min, max}
 use native.Mathlib.Nat.{one-le-pow, zero-add}
 use native.Mathlib.Omega.{arith}
-use lib.ListN.{length, get_or, set}
+use lib.ListN.{length, get_or}
 use borrow.Author.Tests.{le-leb, lt-leb}
 use Rattle.surface.specs.Sheet.{Box}
 use Rattle.surface.specs.Quadtree.{Quadtree, leaf, split, bytes, meets, visits}
 use Rattle.quadtree.specs.Subtree.{Subtree, Readable}
 use Rattle.surface.specs.Table.{tree_of, formed, regions_of, levels}
 use Rattle.boxes.specs.Boxes.{InSheet, shares_area}
-use Rattle.leastlevel.specs.Visits.{least_in, greatest_in, visited_in, EndsAt, Visited, taken, WalkOf, WalkedOver}
-use Rattle.leastlevel.specs.Visits.{LevelsOf}
+use Rattle.leastlevel.specs.declared.Levels.{Levels}
+use Rattle.leastlevel.specs.Visits.{EndsAt, Visited, taken, WalkOf, WalkedOver, LevelsOf}
 use Rattle.quadtree.proofs.SubtreeLaws.{subtree-inside, subtree-leaf, Split, subtree-split, tree-subtree}
 use Rattle.leastlevel.proofs.LevelLaws.{root-meets, taken-least, taken-greatest}
 
@@ -22,34 +22,10 @@ readable-inside {side} {t} {at} f = (subtree-inside f.height t at f.tree f.stand
 
 -- ---- a node
 
--- What holds of three words holds of each list of three.
-words : (P : List ℕ → Type 0) → ((x y z : ℕ) → P (x ∷ y ∷ z ∷ [])) → (f : List ℕ) → length f ≡ 3 → P f
-words P h [] e = absurd (omega arith)
-words P h (x ∷ []) e = absurd (omega arith)
-words P h (x ∷ y ∷ []) e = absurd (omega arith)
-words P h (x ∷ y ∷ z ∷ []) e = h x y z
-words P h (x ∷ y ∷ z ∷ w ∷ f) e = absurd (omega arith)
-
--- The three words of what was found, as visiting a split or a leaf leaves them.
-pub visited-split : (b : ℕ) → 3 < b → (f : List ℕ) → length f ≡ 3 → Visited b f (set f 2 (visited_in f + 1))
-visited-split b h =
-    words (λ f. Visited b f (set f 2 (visited_in f + 1))) λ x y z.
-    record { size = refl; lowest = rw (lt-leb b 3 h); highest = rw (lt-leb b 3 h); counted = refl }
-
-pub visited-leaf : (b : ℕ) → b ≤ 3 → (l g : ℕ) (f : List ℕ) → length f ≡ 3
-    → let one = set f 2 (visited_in f + 1) in
-    l ≡ min (least_in one) b → g ≡ max (greatest_in (set one 0 l)) b → Visited b f (set (set one 0 l) 1 g)
-visited-leaf b h l g =
-    words (λ f. let one = set f 2 (visited_in f + 1) in
-    l ≡ min (least_in one) b → g ≡ max (greatest_in (set one 0 l)) b → Visited b f (set (set one 0 l) 1 g))
-    λ x y z el eg.
-    record { size = refl; lowest = rw (le-leb b 3 h) el; highest = rw (le-leb b 3 h) eg; counted = refl }
-
 -- A split's byte changes no level, so that the walks of its children may go on from what was found.
-pub visited-ready : (b at : ℕ) (f g : List ℕ) → 3 < b → least_in f ≤ 3 → visited_in f ≤ at → Visited b f g
-    → (length g ≡ 3) × (least_in g ≤ 3) × (visited_in g ≤ at + 1)
-visited-ready b at f g above low few v =
-    (v.size, rw (v.lowest, lt-leb b 3 above) low, omega (arith, v.counted))
+pub visited-ready : (b at : ℕ) (f g : Levels) → 3 < b → f.least ≤ 3 → f.visited ≤ at → Visited b f g
+    → (g.least ≤ 3) × (g.visited ≤ at + 1)
+visited-ready b at f g above low few v = (rw (v.lowest, lt-leb b 3 above) low, omega (arith, v.counted))
 
 -- ---- a tree away from the box
 
@@ -61,13 +37,12 @@ taken-away op none b k x y (leaf l) e = rw e
 taken-away op none b zero x y (split sw se nw ne) e = refl
 taken-away op none b (suc k) x y (split sw se nw ne) e = rw e
 
-pub walk-away : (b : Box) (t : List ℕ) (x y side at end : ℕ) (f : List ℕ) → Readable side t at → length f ≡ 3
-    → least_in f ≤ 3 → visited_in f ≤ at → shares_area x y side b ≡ false → EndsAt t at end
+pub walk-away : (b : Box) (t : List ℕ) (x y side at end : ℕ) (f : Levels) → Readable side t at → f.least ≤ 3
+    → f.visited ≤ at → shares_area x y side b ≡ false → EndsAt t at end
     → WalkedOver x y side b t at end f f
-walk-away b t x y side at end f r size low few away ends =
+walk-away b t x y side at end f r low few away ends =
     let e = ends r.height r.tree r.stands in
     record {
-      size = size;
       low = low;
       few = omega arith;
       inside = omega (arith, (subtree-inside r.height t at r.tree r.stands).1);
@@ -83,8 +58,8 @@ walk-away b t x y side at end f r size low few away ends =
 
 -- ---- a leaf
 
-module _ (b : Box) (t : List ℕ) (x y side at : ℕ) (f g : List ℕ) (i : at < length t) (leafy : get_or t at 0 ≤ 3)
-    (low : least_in f ≤ 3) (few : visited_in f ≤ at) (met : shares_area x y side b ≡ true) (v : Visited (get_or t at 0) f g)
+module _ (b : Box) (t : List ℕ) (x y side at : ℕ) (f g : Levels) (i : at < length t) (leafy : get_or t at 0 ≤ 3)
+    (low : f.least ≤ 3) (few : f.visited ≤ at) (met : shares_area x y side b ≡ true) (v : Visited (get_or t at 0) f g)
   where
     leaf-walk : (k : ℕ) → side ≡ 2 ^ k → WalkOf k x y b (leaf (get_or t at 0)) at (at + 1) f g
     unfolding bytes taken visits
@@ -100,7 +75,6 @@ module _ (b : Box) (t : List ℕ) (x y side at : ℕ) (f g : List ℕ) (i : at <
     pub walk-leaf : WalkedOver x y side b t at (at + 1) f g
     walk-leaf =
         record {
-          size = v.size;
           low = rw (v.lowest, le-leb (get_or t at 0) 3 leafy) (omega arith);
           few = omega (arith, v.counted);
           inside = omega arith;
@@ -127,27 +101,27 @@ taken-split op none assoc b j x y sw se nw ne met m m1 m2 m3 m4 e1 e2 e3 e4 =
 -- From what its byte and the walks of its children, of half the side, found one after the other.
 module _ (b : Box) (k j x y side h byte : ℕ) (q sw se nw ne : Quadtree)
     (tall : k ≡ suc j) (whole : q ≡ split sw se nw ne) (full : side ≡ 2 ^ k) (half : h ≡ 2 ^ j) (above : 3 < byte)
-    (met : shares_area x y side b ≡ true) {p1 p2 p3 p4 p5 : ℕ} {f g g1 g2 g3 g4 : List ℕ} (v : Visited byte f g)
+    (met : shares_area x y side b ≡ true) {p1 p2 p3 p4 p5 : ℕ} {f g g1 g2 g3 g4 : Levels} (v : Visited byte f g)
     (w1 : WalkOf j x y b sw p1 p2 g g1) (w2 : WalkOf j (x + h) y b se p2 p3 g1 g2)
     (w3 : WalkOf j x (y + h) b nw p3 p4 g2 g3) (w4 : WalkOf j (x + h) (y + h) b ne p4 p5 g3 g4) where
   root-met : meets b (suc j) x y ≡ true
   root-met = rw (full, tall) at met
 
-  lowest-split : least_in g4 ≡ min (least_in f) (taken min 3 b k x y q)
+  lowest-split : g4.least ≡ min (f.least) (taken min 3 b k x y q)
   lowest-split =
       rw (tall, whole)
-      (taken-split min 3 (λ m n o. omega arith) b j x y sw se nw ne root-met (least_in f) (least_in g1) (least_in g2)
-      (least_in g3) (least_in g4) (w1.lowest ∙ rw (v.lowest, lt-leb byte 3 above)) (w2.lowest ∙ rw half)
+      (taken-split min 3 (λ m n o. omega arith) b j x y sw se nw ne root-met (f.least) (g1.least) (g2.least)
+      (g3.least) (g4.least) (w1.lowest ∙ rw (v.lowest, lt-leb byte 3 above)) (w2.lowest ∙ rw half)
       (w3.lowest ∙ rw half) (w4.lowest ∙ rw half))
 
-  highest-split : greatest_in g4 ≡ max (greatest_in f) (taken max 0 b k x y q)
+  highest-split : g4.greatest ≡ max (f.greatest) (taken max 0 b k x y q)
   highest-split =
       rw (tall, whole)
-      (taken-split max 0 (λ m n o. omega arith) b j x y sw se nw ne root-met (greatest_in f) (greatest_in g1)
-      (greatest_in g2) (greatest_in g3) (greatest_in g4) (w1.highest ∙ rw (v.highest, lt-leb byte 3 above))
+      (taken-split max 0 (λ m n o. omega arith) b j x y sw se nw ne root-met (f.greatest) (g1.greatest)
+      (g2.greatest) (g3.greatest) (g4.greatest) (w1.highest ∙ rw (v.highest, lt-leb byte 3 above))
       (w2.highest ∙ rw half) (w3.highest ∙ rw half) (w4.highest ∙ rw half))
 
-  counted-split : visited_in g4 ≡ visited_in f + cond (meets b k x y) (visits b k x y q) 0
+  counted-split : g4.visited ≡ f.visited + cond (meets b k x y) (visits b k x y q) 0
   unfolding visits
   counted-split =
       rw (w4.counted, w3.counted, w2.counted, w1.counted, v.counted, half, tall, whole, root-met) (omega arith)
@@ -176,7 +150,7 @@ module _ {side : ℕ} {t : List ℕ} {at : ℕ} (f : Readable side t at) (above 
   readable-first = readable parts.first
 
   -- Each child stands where the walk of the one before it ended.
-  module _ {b : Box} {x y p1 : ℕ} {g0 g1 : List ℕ} (w1 : WalkedOver x y (side / 2) b t (at + 1) p1 g0 g1) where
+  module _ {b : Box} {x y p1 : ℕ} {g0 g1 : Levels} (w1 : WalkedOver x y (side / 2) b t (at + 1) p1 g0 g1) where
     walk_1 : WalkOf parts.j x y b parts.sw (at + 1) p1 g0 g1
     walk_1 = w1.walks parts.j parts.sw half-side parts.first
 
@@ -186,7 +160,7 @@ module _ {side : ℕ} {t : List ℕ} {at : ℕ} (f : Readable side t at) (above 
     pub readable-second : Readable (side / 2) t p1
     readable-second = readable second
 
-    module _ {p2 : ℕ} {g2 : List ℕ} (w2 : WalkedOver (x + side / 2) y (side / 2) b t p1 p2 g1 g2) where
+    module _ {p2 : ℕ} {g2 : Levels} (w2 : WalkedOver (x + side / 2) y (side / 2) b t p1 p2 g1 g2) where
       walk_2 : WalkOf parts.j (x + side / 2) y b parts.se p1 p2 g1 g2
       walk_2 = w2.walks parts.j parts.se half-side second
 
@@ -196,7 +170,7 @@ module _ {side : ℕ} {t : List ℕ} {at : ℕ} (f : Readable side t at) (above 
       pub readable-third : Readable (side / 2) t p2
       readable-third = readable third
 
-      module _ {p3 : ℕ} {g3 : List ℕ} (w3 : WalkedOver x (y + side / 2) (side / 2) b t p2 p3 g2 g3) where
+      module _ {p3 : ℕ} {g3 : Levels} (w3 : WalkedOver x (y + side / 2) (side / 2) b t p2 p3 g2 g3) where
         walk_3 : WalkOf parts.j x (y + side / 2) b parts.nw p2 p3 g2 g3
         walk_3 = w3.walks parts.j parts.nw half-side third
 
@@ -206,7 +180,7 @@ module _ {side : ℕ} {t : List ℕ} {at : ℕ} (f : Readable side t at) (above 
         pub readable-fourth : Readable (side / 2) t p3
         readable-fourth = readable fourth
 
-        walk-parts : {p4 : ℕ} {g g4 : List ℕ}
+        walk-parts : {p4 : ℕ} {g g4 : Levels}
             → WalkedOver (x + side / 2) (y + side / 2) (side / 2) b t p3 p4 g3 g4
             → shares_area x y side b ≡ true → Visited (get_or t at 0) g g0
             → WalkOf f.height x y b f.tree at p4 g g4
@@ -218,7 +192,7 @@ module _ {side : ℕ} {t : List ℕ} {at : ℕ} (f : Readable side t at) (above 
             f.tree parts.sw parts.se parts.nw parts.ne
             parts.height parts.whole f.power half-side above met v walk_1 walk_2 walk_3 Walk-4 at e
 
-pub walk_split : {side : ℕ} {t : List ℕ} {at : ℕ} {b : Box} {x y p1 p2 p3 p4 : ℕ} {g g0 g1 g2 g3 g4 : List ℕ}
+pub walk_split : {side : ℕ} {t : List ℕ} {at : ℕ} {b : Box} {x y p1 p2 p3 p4 : ℕ} {g g0 g1 g2 g3 g4 : Levels}
     → 3 < get_or t at 0 → shares_area x y side b ≡ true → Visited (get_or t at 0) g g0
     → WalkedOver x y (side / 2) b t (at + 1) p1 g0 g1 → WalkedOver (x + side / 2) y (side / 2) b t p1 p2 g1 g2
     → WalkedOver x (y + side / 2) (side / 2) b t p2 p3 g2 g3
@@ -226,7 +200,6 @@ pub walk_split : {side : ℕ} {t : List ℕ} {at : ℕ} {b : Box} {x y p1 p2 p3 
     → WalkedOver x y side b t at p4 g g4
 walk_split above met v w1 w2 w3 w4 =
     record {
-      size = w4.size;
       low = w4.low;
       few = w4.few;
       inside = w4.inside;
@@ -236,23 +209,22 @@ walk_split above met v w1 w2 w3 w4 =
 -- ---- the whole tree
 
 -- What was found before the first node.
-abbrev pub nothing : List ℕ
-nothing = 3 ∷ 0 ∷ 0 ∷ []
+abbrev pub nothing : Levels
+nothing = record { least = 3; greatest = 0; visited = 0 }
 
 -- A tree that is one leaf, visited.
-pub visited-root : (l : ℕ) → l ≤ 3 → Visited l nothing (l ∷ l ∷ 1 ∷ [])
+pub visited-root : (l : ℕ) → l ≤ 3 → Visited l nothing (record { least = l; greatest = l; visited = 1 })
 visited-root l h =
     record {
-      size = refl;
       lowest = rw (le-leb l 3 h) (omega arith);
       highest = rw (le-leb l 3 h) (omega arith);
       counted = refl;
     }
 
 -- A walk of the whole tree finds the least and the greatest level under a box in the sheet, and visits its nodes.
-pub walk-whole : (W H : ℕ) (b : Box) (t : List ℕ) (next : ℕ) (g : List ℕ) → W ≤ 8 → H ≤ 8
+pub walk-whole : (W H : ℕ) (b : Box) (t : List ℕ) (next : ℕ) (g : Levels) → W ≤ 8 → H ≤ 8
     → formed W H (tree_of t) ≡ true → InSheet W H b → WalkedOver 0 0 32 b t 0 next nothing g
-    → LevelsOf W H t b (least_in g) (greatest_in g) (visited_in g)
+    → LevelsOf W H t b (g.least) (g.greatest) (g.visited)
 unfolding levels
 walk-whole W H b t next g w h e i o =
     let q = regions_of (tree_of t) in

@@ -1,31 +1,21 @@
 -- What a walk of a subtree finds, and the levels under a box.
-use Rattle.std.specs.Prelude.{◌≡◌, cond, List, ℕ, zero, suc, ◌+◌, ◌^◌, ◌≤◌, min, max, leb, length, get_or}
+use Rattle.std.specs.Prelude.{◌≡◌, cond, List, ℕ, zero, suc, ◌+◌, ◌^◌, ◌≤◌, min, max, leb, length}
 use Rattle.surface.specs.Sheet.{Box}
 use Rattle.surface.specs.Quadtree.{Quadtree, leaf, split, bytes, meets, visits}
 use Rattle.surface.specs.Support.{least_where, greatest_where, in_box}
 use Rattle.surface.specs.Table.{tree_of, regions_of, levels}
 use Rattle.quadtree.specs.Subtree.{Subtree}
-
--- what was found so far: the least level of the leaves visited, the greatest, and how many nodes were visited
-abbrev pub least_in : List ℕ → ℕ
-least_in found = get_or found 0 0
-
-abbrev pub greatest_in : List ℕ → ℕ
-greatest_in found = get_or found 1 0
-
-abbrev pub visited_in : List ℕ → ℕ
-visited_in found = get_or found 2 0
+use Rattle.leastlevel.specs.declared.Levels.{Levels}
 
 -- what the least or the greatest level so far, m, becomes with a visited node of this byte: a leaf's is taken in by op
 abbrev pub level_with : (ℕ → ℕ → ℕ) → ℕ → ℕ → ℕ
 level_with op b m = cond (leb b 3) (op m b) m
 
 -- a visited node is counted, and if it is a leaf its level is taken in
-pub record Visited (b : ℕ) (before after : List ℕ) : Type 0 where
-  pub size : length after ≡ 3
-  pub lowest : least_in after ≡ level_with min b (least_in before)
-  pub highest : greatest_in after ≡ level_with max b (greatest_in before)
-  pub counted : visited_in after ≡ visited_in before + 1
+pub record Visited (b : ℕ) (before after : Levels) : Type 0 where
+  pub lowest : after.least ≡ level_with min b before.least
+  pub highest : after.greatest ≡ level_with max b before.greatest
+  pub counted : after.visited ≡ before.visited + 1
 
 -- how many trees a node of this byte begins
 abbrev pub begun : ℕ → ℕ
@@ -49,17 +39,16 @@ taken op none b (suc k) x y (split sw se nw ne) =
     none
 
 -- of the tree q of the square of side 2^k at (x, y): the position after it, its levels and its nodes visited
-pub record WalkOf (k x y : ℕ) (b : Box) (q : Quadtree) (at next : ℕ) (before after : List ℕ) : Type 0 where
+pub record WalkOf (k x y : ℕ) (b : Box) (q : Quadtree) (at next : ℕ) (before after : Levels) : Type 0 where
   pub ends : next ≡ at + length (bytes q)
-  pub lowest : least_in after ≡ min (least_in before) (taken min 3 b k x y q)
-  pub highest : greatest_in after ≡ max (greatest_in before) (taken max 0 b k x y q)
-  pub counted : visited_in after ≡ visited_in before + cond (meets b k x y) (visits b k x y q) 0
+  pub lowest : after.least ≡ min before.least (taken min 3 b k x y q)
+  pub highest : after.greatest ≡ max before.greatest (taken max 0 b k x y q)
+  pub counted : after.visited ≡ before.visited + cond (meets b k x y) (visits b k x y q) 0
 
 -- the same of the tree that stands there, with no more nodes than bytes, so that the count fits
-pub record WalkedOver (x y side : ℕ) (b : Box) (t : List ℕ) (at next : ℕ) (before after : List ℕ) : Type 0 where
-  pub size : length after ≡ 3
-  pub low : least_in after ≤ 3
-  pub few : visited_in after ≤ next
+pub record WalkedOver (x y side : ℕ) (b : Box) (t : List ℕ) (at next : ℕ) (before after : Levels) : Type 0 where
+  pub low : after.least ≤ 3
+  pub few : after.visited ≤ next
   pub inside : next ≤ length t
   pub walks : (k : ℕ) (q : Quadtree) → side ≡ 2 ^ k → Subtree k t at q → WalkOf k x y b q at next before after
 

@@ -1,12 +1,11 @@
 // The least and the greatest level under a box, with the number of tree nodes visited, by recursion into four children.
 #![tactic(auto)]
 
-ghost use Rattle.std.specs.Prelude.{◌≡◌, ◌+◌, ◌≤◌, ◌<◌, min, max, true, length};
+ghost use Rattle.std.specs.Prelude.{◌≡◌, ◌+◌, ◌≤◌, ◌<◌, true};
 ghost use Rattle.surface.specs.Table.{tree_of, formed};
-ghost use Rattle.boxes.specs.Boxes.{box_of, box_at, InSheet};
+ghost use Rattle.boxes.specs.Boxes.{box_of, InSheet};
 ghost use Rattle.quadtree.specs.Subtree.{Readable};
-ghost use Rattle.leastlevel.specs.Visits.{least_in, visited_in, begun, Standing, EndsAt, Visited, WalkedOver};
-ghost use Rattle.leastlevel.specs.Visits.{LevelsOf};
+ghost use Rattle.leastlevel.specs.Visits.{begun, Standing, EndsAt, Visited, WalkedOver, LevelsOf};
 
 // The least and the greatest level of the leaves visited, and how many nodes were visited.
 #[derive(Clone, Copy)]
@@ -14,18 +13,6 @@ pub struct Levels {
     pub least: usize,
     pub greatest: usize,
     pub visited: usize,
-}
-
-fn lesser(a: usize, b: usize) -> usize
-    ensures { result ≡ min a b }
-{
-    if a < b { a } else { b }
-}
-
-fn greater(a: usize, b: usize) -> usize
-    ensures { result ≡ max a b }
-{
-    if a < b { b } else { a }
 }
 
 // How many trees a node of this byte begins: a leaf, 0 to 3, none, and a split, 4, four.
@@ -43,6 +30,7 @@ fn skip(t: &[u8], at: usize) -> usize
 {
     let mut next = at;
     let mut end = at + 1;
+    // A `while`: no range fits, since the end moves on at each split that is read.
     while next < end {
         end += begins(t[next]);
         next += 1;
@@ -52,49 +40,47 @@ fn skip(t: &[u8], at: usize) -> usize
 
 // Takes a visited node of this byte into what was found so far: the least level (3 before the first leaf), the greatest
 // (0 before it) and the number of nodes.
-fn visit(b: u8, found: &mut [usize; 3])
-    requires { (length found.old ≡ 3) × (visited_in found.old < 9223372036854775808) }
+fn visit(b: u8, found: &mut Levels)
+    requires { found.old.visited < 9223372036854775808 }
     ensures { Visited b found.old found.new }
 {
-    found[2] = found[2] + 1;
+    found.visited += 1;
     if 3 < b {
         return;
     }
-    let l = b as usize;
-    found[0] = lesser(found[0], l);
-    found[1] = greater(found[1], l);
+    let level = b as usize;
+    found.least = found.least.min(level);
+    found.greatest = found.greatest.max(level);
 }
 
 // Visits the tree that is written from `at` on, of the square of this side with low corner (x, y), where the square
-// shares area with the box; takes the nodes visited into what was found, and returns the tree's end. The box's corners
-// are lent: a struct would be copied at each call.
+// shares area with the box; takes the nodes visited into what was found, and returns the tree's end.
 fn walk(
     t: &[u8],
     at: usize,
     x: usize,
     y: usize,
     side: usize,
-    corners: &[usize; 4],
-    found: &mut [usize; 3],
+    b: &boxes::Box,
+    found: &mut Levels,
 ) -> usize
-    requires { (x + side ≤ 32) × (y + side ≤ 32) × Readable side t.now at × (length found.old ≡ 3)
-        × (least_in found.old ≤ 3) × (visited_in found.old ≤ at) }
-    ensures { WalkedOver x y side (box_at corners.now) t.now at result found.old
-        found.new }
+    requires { (x + side ≤ 32) × (y + side ≤ 32) × Readable side t.now at × (found.old.least ≤ 3)
+        × (found.old.visited ≤ at) }
+    ensures { WalkedOver x y side (box_of b.now) t.now at result found.old found.new }
 {
-    if !boxes::meets(x, y, side, corners) {
+    if !boxes::meets(x, y, side, b) {
         return skip(t, at);
     }
-    let b = t[at];
-    visit(b, found);
-    if b <= 3 {
+    let byte = t[at];
+    visit(byte, found);
+    if byte <= 3 {
         return at + 1;
     }
     let half = side / 2;
-    let p1 = walk(t, at + 1, x, y, half, corners, found);
-    let p2 = walk(t, p1, x + half, y, half, corners, found);
-    let p3 = walk(t, p2, x, y + half, half, corners, found);
-    walk(t, p3, x + half, y + half, half, corners, found)
+    let p1 = walk(t, at + 1, x, y, half, b, found);
+    let p2 = walk(t, p1, x + half, y, half, b, found);
+    let p3 = walk(t, p2, x, y + half, half, b, found);
+    walk(t, p3, x + half, y + half, half, b, found)
 }
 
 // The levels under a box that lies in the sheet, and the nodes visited.
@@ -112,12 +98,11 @@ pub fn under(t: &[u8], w: usize, h: usize, b: boxes::Box) -> Levels
             visited: 1,
         };
     }
-    let corners = [b.u0, b.v0, b.u1, b.v1];
-    let mut found = [3usize, 0, 0];
-    walk(t, 0, 0, 0, 32, &corners, &mut found);
-    Levels {
-        least: found[0],
-        greatest: found[1],
-        visited: found[2],
-    }
+    let mut found = Levels {
+        least: 3,
+        greatest: 0,
+        visited: 0,
+    };
+    walk(t, 0, 0, 0, 32, &b, &mut found);
+    found
 }

@@ -1,27 +1,30 @@
 -- The outcome of reading a file: refused by what its fields say, refused by a last cause, or read.
+use Rattle.std.specs.Prelude.{Option, Result, Ok, Err}
 use mathlib.Core.Path.{◌≡◌, refl, sym, ap, ap₂, ◌∙◌, subst}
 use mathlib.Core.Bool.{true}
 use mathlib.Core.List.{List}
-use Prim.Native.Nat.{ℕ, zero, suc, ◌+◌, ◌-◌, ◌≤◌, ◌<◌, min}
+use Prim.Native.Nat.{ℕ, zero, suc, ◌+◌, ◌-◌, ◌≤◌, ◌<◌}
 use native.Mathlib.Nat.{le_refl}
 use native.Mathlib.Decide.{dec_lt}
 use native.Mathlib.Omega.{arith}
 use borrow.Author.Tests.{ltb-false, eqb-true, lt-ltb, le-ltb}
 use lib.Dec.{ltb, eqb}
 use lib.IntN.{ℤ}
-use lib.ListN.{length, take, drop, length-take, length-drop, drop_of_length-le}
-use lib.Seq.{take-nil, take_all, take-length}
+use lib.ListN.{length, drop, length-take, length-drop}
 use Rattle.surface.specs.Table.{cause, ◌or_else◌, slots}
 use Rattle.surface.specs.Calls.{refused, gives, put, written, TableMeets, length_cause}
 use Rattle.surface.specs.Fields.{declined, holds}
-use Rattle.surface.specs.Note.{no_part, part_of}
+use Rattle.surface.specs.Note.{part_of}
 use Rattle.surface.specs.TableFile.{level_fields, file_contents, FileResult, file_outcome_of, file_outcome}
 use Rattle.surface.specs.BenchLoading.{note_of, note_part, bench_outcome}
 use Rattle.surface.proofs.Causes.{or_else-none, cause-none, cause-off}
 use Rattle.answers.specs.declared.Bench.{Bench}
-use Rattle.answers.specs.Answers.{file_answer, note_told}
+use Rattle.answers.specs.declared.Note.{Note}
+use Rattle.answers.specs.declared.Refusal.{Refusal}
+use Rattle.answers.specs.Refusals.{number}
+use Rattle.answers.specs.Answers.{bench_answer, note_told}
 use Rattle.answers.proofs.AnswerLaws.{table-refused, table_done}
-use Rattle.demands.specs.FilePromises.{ReadPromise, BenchPromise}
+use Rattle.demands.specs.FilePromises.{BenchPromise}
 use Rattle.fields.proofs.PositionLaws.{body-size}
 use Rattle.rows.specs.Rows.{levels_of}
 use Rattle.judging.specs.Judged.{tree_in, last_judged, Head, note_at, EndJudged, part_from, lastly}
@@ -38,25 +41,21 @@ pub levels-declined : (file : List ℕ) (end from W H : ℕ) (rows : List ℕ) (
     → level_fields W H (levels_of rows) 4 (drop from file) ≡ declined c → file_contents file ≡ declined c
 levels-declined file end from W H rows c h e = rw e at h.contents
 
--- a call that is refused says that there is no note
-pub bench-refused : (file tree : List ℕ) (numbers : List ℤ) (r : Bench) (n : ℕ)
-    → (file_answer r.file ≡ refused n) × (note_told r.note ≡ no_part)
-    → TableMeets (file_outcome file tree numbers) (refused n) tree numbers
-    → BenchPromise file tree numbers r tree numbers
+-- a call that is refused tells of no note
+bench-refused : (file tree : List ℕ) (numbers : List ℤ) (e : Refusal)
+    → TableMeets (file_outcome file tree numbers) (refused (number e)) tree numbers
+    → BenchPromise file tree numbers (Err e) tree numbers
 unfolding bench_outcome
-bench-refused file tree numbers r n p m = (
-  (p.0 ∙ m.0, m.1, m.2),
-  p.1 ∙ ap (λ a. note_part a file (note_of (file_contents file))) m.0,
-)
+bench-refused file tree numbers e m = (m, ap (λ a. note_part a file (note_of (file_contents file))) m.0)
 
-pub bench-declined : (file tree : List ℕ) (numbers : List ℤ) (r : Bench) (n : ℕ)
-    → (file_answer r.file ≡ refused n) × (note_told r.note ≡ no_part) → file_contents file ≡ declined n
-    → BenchPromise file tree numbers r tree numbers
-bench-declined file tree numbers r n p e = bench-refused file tree numbers r n p (read-declined file tree numbers n e)
+pub bench-declined : (file tree : List ℕ) (numbers : List ℤ) (e : Refusal) → file_contents file ≡ declined (number e)
+    → BenchPromise file tree numbers (Err e) tree numbers
+bench-declined file tree numbers e q = bench-refused file tree numbers e (read-declined file tree numbers (number e) q)
 
 -- the controller's loader answers as the bench loader does
-pub bench-reads : (file tree_out : List ℕ) (numbers_out : List ℤ) (r : Bench) (tree : List ℕ) (numbers : List ℤ)
-    → BenchPromise file tree_out numbers_out r tree numbers → ReadPromise file tree_out numbers_out r.file tree numbers
+pub bench-reads : (file tree_out : List ℕ) (numbers_out : List ℤ) (r : Result Bench Refusal) (tree : List ℕ)
+    (numbers : List ℤ) → BenchPromise file tree_out numbers_out r tree numbers
+    → TableMeets (file_outcome file tree_out numbers_out) (bench_answer r) tree numbers
 unfolding bench_outcome
 bench-reads file tree_out numbers_out r tree numbers p = p.0
 
@@ -72,32 +71,12 @@ part-told file at h = go (dec_lt at (length file))
         (ap₂ (λ o n. record { stands = true; offset = o; size = n }) (omega (arith, size, h l)) (sym size))
     go (no l) = rw (le-ltb at (length file) (omega arith))
 
--- the part of a file by its first byte and its length, each cut to the file
-pub part_cut : (file : List ℕ) (offset n from k : ℕ) → from ≡ min offset (length file) → k ≡ min n (length file - from)
-    → take (from + k - from) (drop from file) ≡ take n (drop offset file)
-part_cut file offset n from k e f = go (dec_lt (length file) offset) (dec_lt (length file - offset) n)
-  where
-    go : Dec (length file < offset) → Dec (length file - offset < n)
-        → take (from + k - from) (drop from file) ≡ take n (drop offset file)
-    go (yes l) d =
-        ap₂ take {x = from + k - from} {y = 0} (omega arith) refl
-        ∙ sym (ap (take n) (drop_of_length-le file {i = offset} (omega arith)) ∙ take-nil n)
-    go (no l) (yes d) =
-        let here : from ≡ offset = omega arith in
-        ap₂ (λ m i. take m (drop i file)) {x = from + k - from} {y = length (drop offset file)}
-        (omega (arith, length-drop offset file)) here
-        ∙ take-length (drop offset file)
-        ∙ sym (take_all n (drop offset file) (omega (arith, length-drop offset file)))
-    go (no l) (no d) =
-        let here : from ≡ offset = omega arith in
-        ap₂ (λ m i. take m (drop i file)) {x = from + k - from} {y = n} (omega arith) here
-
 -- ---- the outputs
 
 module _ (file : List ℕ) (end from last W H : ℕ) (rows : List ℕ) (found : List ℤ) (k : ℕ)
     (h : Head file end from W H rows)
-    (e : level_fields W H (levels_of rows) 4 (drop from file) ≡ holds found (drop last file)) (j : EndJudged k file last)
-    (tree : List ℕ) (numbers : List ℤ) where
+    (e : level_fields W H (levels_of rows) 4 (drop from file) ≡ holds found (drop last file))
+    (j : EndJudged k file last) (tree : List ℕ) (numbers : List ℤ) where
   abbrev due : ℕ
   due = lastly k W H (end - 8) tree numbers
 
@@ -124,9 +103,9 @@ module _ (file : List ℕ) (end from last W H : ℕ) (rows : List ℕ) (found : 
       by zero j = rw j.1
       by (suc c) j = rw (j W H (tree_in file end) found)
 
-  pub read-refused : (c : ℕ) → c ≡ due → (c ≡ 0 → ⊥)
-      → TableMeets (file_outcome file tree numbers) (refused c) tree numbers
-  read-refused c q n = rw outcome (table-refused q n given (tree_in file end) found tree numbers)
+  pub fill-refused : (e : Refusal) → number e ≡ due → BenchPromise file tree numbers (Err e) tree numbers
+  fill-refused e q =
+      bench-refused file tree numbers e (rw outcome (table-refused e q given (tree_in file end) found tree numbers))
 
   -- where no cause applies, nothing but a note follows the levels
   pub ended : due ≡ 0 → EndJudged 0 file last
@@ -141,16 +120,15 @@ module _ (file : List ℕ) (end from last W H : ℕ) (rows : List ℕ) (found : 
       rw q.1 in
       part-told file last q.0 ∙ ap (part_of file) (sym (ap note_of contents ∙ same))
 
-  pub bench-done : (r : Bench) {t : List ℕ} {after : List ℤ} → file_answer r.file ≡ gives given
-      → note_told r.note ≡ part_from last (length file) → 0 ≡ due → t ≡ put (tree_in file end) tree → after ≡ found
-      → BenchPromise file tree numbers r t after
+  pub bench-done : (told : Option Note) {t : List ℕ} {after : List ℤ} → note_told told ≡ part_from last (length file)
+      → 0 ≡ due → t ≡ put (tree_in file end) tree → after ≡ found
+      → BenchPromise file tree numbers
+      (Ok (record { loaded = record { length = end - 8; w = W; h = H }; note = told })) t after
   unfolding bench_outcome
-  bench-done r {t} {after} a n q p f =
+  bench-done told {t} {after} n q p f =
       let m : TableMeets (file_outcome file tree numbers) (gives given) t after =
-      rw outcome (table_done q refl f (tree_in file end) tree t numbers p) in (
-        (a ∙ m.0, m.1, m.2),
-        n ∙ note-found (sym q) ∙ ap (λ a. note_part a file (note_of (file_contents file))) m.0,
-      )
+      rw outcome (table_done q refl f (tree_in file end) tree t numbers p) in
+      (m, n ∙ note-found (sym q) ∙ ap (λ a. note_part a file (note_of (file_contents file))) m.0)
 
   -- where no cause applies, the outputs have their lengths
   pub outputs-fit : due ≡ 0 → (length numbers ≡ slots W H) × (end - 8 ≤ length tree)

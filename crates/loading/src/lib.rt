@@ -4,68 +4,47 @@
 
 mod load;
 
-ghost use Rattle.std.specs.Prelude.{◌≡◌, ◌+◌, ◌≤◌, ◌<◌, min, drop};
-ghost use Rattle.surface.specs.Calls.{refused};
-ghost use Rattle.surface.specs.Note.{no_part, bytes_in};
+ghost use Rattle.std.specs.Prelude.{◌≡◌, ◌+◌, ◌≤◌, ◌<◌, drop};
+ghost use Rattle.surface.specs.Note.{bytes_in};
 ghost use Rattle.surface.specs.TableFile.{level_fields};
-ghost use Rattle.answers.specs.Answers.{file_answer, note_told};
+ghost use Rattle.answers.specs.Answers.{note_told};
+ghost use Rattle.answers.specs.Refusals.{cause_of};
 ghost use Rattle.demands.specs.FilePromises.{ReadPromise, BenchPromise};
 ghost use Rattle.rows.specs.Rows.{levels_of};
 ghost use Rattle.activity.specs.Counts.{Counted};
 ghost use Rattle.judging.specs.Judged.{sheet_w, sheet_h, Front, Head, ends_at, part_from, lastly};
 
-use fields::Field;
-
-// What is told where no note stands, and by a refused call.
-const NO_NOTE: answers::Note = answers::Note {
-    stands: false,
-    offset: 0,
-    length: 0,
-};
-
-// A refused call tells of no note.
-fn refused(cause: u8) -> answers::Bench
-    ensures { (file_answer result.file ≡ refused cause) × (note_told result.note ≡ no_part) }
-{
-    answers::Bench {
-        file: answers::File::Refused(cause),
-        note: NO_NOTE,
-    }
-}
+use answers::{Bench, Loaded, Note, Refusal};
 
 // The note at a position of a file of so many bytes, which is all that follows it; none at the end of the file.
-fn note_at(at: usize, size: usize) -> answers::Note
+fn note_at(at: usize, size: usize) -> Option<Note>
     requires { (at ≤ size) × (at < size → at + 3 ≤ size) }
     ensures { note_told result ≡ part_from at size }
 {
     let left = size - at;
     if left < fields::HEAD {
-        return NO_NOTE;
+        return None;
     }
-    answers::Note {
-        stands: true,
+    Some(Note {
         offset: at + fields::HEAD,
         length: left - fields::HEAD,
-    }
+    })
 }
 
 // "after the last field 15, 16, 17": the cause of what follows the levels, then those of the outputs.
 fn last_cause(
-    after: u8,
+    after: Result<(), Refusal>,
     w: usize,
     h: usize,
     bytes: usize,
     tree_out: &[u8],
     numbers_out: &[i64],
-) -> u8
+) -> Result<(), Refusal>
     requires { (w ≤ 8) × (h ≤ 8) }
-    ensures { result ≡ lastly after w h bytes tree_out.now numbers_out.now }
+    ensures { cause_of result ≡ lastly (cause_of after) w h bytes tree_out.now numbers_out.now }
 {
-    let late = coefficients::outputs_cause(w, h, bytes, tree_out, numbers_out);
-    if after != 0 {
-        return after;
-    }
-    late
+    after?;
+    coefficients::outputs_cause(w, h, bytes, tree_out, numbers_out)
 }
 
 // Writes the outputs, if no last cause applies: the tree ends at `end`, the levels stand from `from` to `last`.
@@ -79,28 +58,21 @@ fn fill(
     h: usize,
     tree_out: &mut [u8],
     numbers_out: &mut [i64],
-) -> answers::Bench
+) -> Result<Bench, Refusal>
     requires { Head file.now end from w h rows.now
         × ends_at file.now last (level_fields w h (levels_of rows.now) 4 (drop from file.now)) }
     ensures { BenchPromise file.now tree_out.old numbers_out.old result
         tree_out.new numbers_out.new }
 {
-    let bytes = end - tablefile::TREE;
+    let length = end - tablefile::TREE;
     let after = judging::end_cause(file, last);
-    let cause = last_cause(after, w, h, bytes, tree_out, numbers_out);
-    if cause != 0 {
-        return refused(cause);
-    }
+    last_cause(after, w, h, length, tree_out, numbers_out)?;
     fields::put(&file[tablefile::TREE..end], tree_out, 0);
     load::load_levels(file, from, rows, w, h, numbers_out);
-    answers::Bench {
-        file: answers::File::Loaded {
-            length: bytes,
-            w,
-            h,
-        },
+    Ok(Bench {
+        loaded: Loaded { length, w, h },
         note: note_at(last, file.len()),
-    }
+    })
 }
 
 // Judges the fields of the levels, which start at `from`, and writes the outputs if no cause applies. The tree ends
@@ -115,16 +87,13 @@ fn read_levels(
     counts: [usize; 4],
     tree_out: &mut [u8],
     numbers_out: &mut [i64],
-) -> answers::Bench
+) -> Result<Bench, Refusal>
     requires { Head file.now end from w h rows.now × Counted w h (levels_of rows.now) counts }
     ensures { BenchPromise file.now tree_out.old numbers_out.old result
         tree_out.new numbers_out.new }
 {
-    let f = judging::levels_judge(file, from, counts);
-    match f {
-        Field::Faulty(c) => refused(c),
-        Field::Body(last) => fill(file, end, from, last, rows, w, h, tree_out, numbers_out),
-    }
+    let last = judging::levels_judge(file, from, counts)?;
+    fill(file, end, from, last, rows, w, h, tree_out, numbers_out)
 }
 
 // Judges what follows the tree, whose field ends at `end`: the counts, where they stand there, and the levels.
@@ -134,7 +103,7 @@ fn read_counted(
     rows: &[u32; 96],
     tree_out: &mut [u8],
     numbers_out: &mut [i64],
-) -> answers::Bench
+) -> Result<Bench, Refusal>
     requires { Front file.now end (sheet_w file.now) (sheet_h file.now) rows.now }
     ensures { BenchPromise file.now tree_out.old numbers_out.old result
         tree_out.new numbers_out.new }
@@ -142,64 +111,49 @@ fn read_counted(
     let w = file[tablefile::W] as usize;
     let h = file[tablefile::H] as usize;
     let counts = activity::count::active_counts(rows, w, h);
-    let f = judging::counts_judge(file, end, counts);
-    match f {
-        Field::Faulty(c) => refused(c),
-        Field::Body(from) => read_levels(
-            file,
-            end,
-            from,
-            rows,
-            w,
-            h,
-            counts,
-            tree_out,
-            numbers_out,
-        ),
-    }
+    let from = judging::counts_judge(file, end, counts)?;
+    read_levels(file, end, from, rows, w, h, counts, tree_out, numbers_out)
 }
 
 // Reads a table file into a tree buffer and a coefficient slice, and tells of its note; or refuses it, writes nothing
 // and tells of none.
-pub fn read_bench(file: &[u8], tree_out: &mut [u8], numbers_out: &mut [i64]) -> answers::Bench
+pub fn read_bench(
+    file: &[u8],
+    tree_out: &mut [u8],
+    numbers_out: &mut [i64],
+) -> Result<Bench, Refusal>
     ensures { BenchPromise file.now tree_out.old numbers_out.old result
         tree_out.new numbers_out.new }
 {
     let mut rows = [0u32; 96];
-    let f = judging::head_judge(file, &mut rows);
-    match f {
-        Field::Faulty(c) => refused(c),
-        Field::Body(end) => read_counted(file, end, &rows, tree_out, numbers_out),
-    }
+    let end = judging::head_judge(file, &mut rows)?;
+    read_counted(file, end, &rows, tree_out, numbers_out)
 }
 
 // Reads a table file into a tree buffer and a coefficient slice, or refuses it and writes nothing. It passes over a
 // note.
-pub fn read_file(file: &[u8], tree_out: &mut [u8], numbers_out: &mut [i64]) -> answers::File
+pub fn read_file(
+    file: &[u8],
+    tree_out: &mut [u8],
+    numbers_out: &mut [i64],
+) -> Result<Loaded, Refusal>
     ensures { ReadPromise file.now tree_out.old numbers_out.old result
         tree_out.new numbers_out.new }
 {
-    let r = read_bench(file, tree_out, numbers_out);
-    r.file
+    let bench = read_bench(file, tree_out, numbers_out)?;
+    Ok(bench.loaded)
 }
 
-// The lesser of two numbers.
-fn least(a: usize, b: usize) -> usize
-    ensures { result ≡ min a b }
-{
-    if a < b {
-        return a;
-    }
-    b
-}
-
-// The note as the part of the file that it is: what the bench loader told of, and empty where it told of none.
-pub fn note_in(file: &[u8], note: answers::Note) -> &[u8]
+// The note as the part of the file that it is, cut to the file: what the bench loader told of, and empty for none.
+pub fn note_in(file: &[u8], note: Option<Note>) -> &[u8]
     ensures { result.now ≡ bytes_in file.now (note_told note) }
 {
+    let Some(part) = note else {
+        return &file[..0];
+    };
     let size = file.len();
-    let from = least(note.offset, size);
-    let length = least(note.length, size - from);
+    let from = part.offset.min(size);
+    let length = part.length.min(size - from);
     let end = from + length;
     &file[from..end]
 }

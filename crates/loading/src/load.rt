@@ -27,17 +27,15 @@ fn load_row(
 {
     let e = activity::eighths(level);
     let marks = activity::active_row(rows, w, h, level, b);
-    let n = row.len();
     let mut at = next;
-    let mut a = 0;
-    while a < n {
-        let mut c: i64 = 0;
-        if activity::is_marked(marks, a, e) {
-            c = fields::number::read(body, at);
+    for (a, place) in row.iter_mut().enumerate() {
+        *place = if activity::is_marked(marks, a, e) {
+            let number = fields::number::read(body, at);
             at += 1;
-        }
-        row[a] = c;
-        a += 1;
+            number
+        } else {
+            0
+        };
     }
     at
 }
@@ -56,12 +54,10 @@ pub fn load_level(body: &[u8], part: &mut [i64], rows: &[u32; 96], w: usize, h: 
     let n = coefficients::functions(w, level);
     let m = coefficients::functions(h, level);
     let mut next = 0;
-    let mut b = 0;
-    while b < m {
+    for b in 0..m {
         let from = b * n;
         let to = from + n;
         next = load_row(body, next, &mut part[from..to], rows, w, h, level, b);
-        b += 1;
     }
 }
 
@@ -79,8 +75,7 @@ pub fn load_levels(
     ensures { levels_hold file.now from w h rows.now numbers.new }
 {
     let mut at = from;
-    let mut level = 0;
-    while level < tablefile::LEVELS {
+    for level in 0..tablefile::LEVELS {
         let body = at + fields::HEAD;
         let end = body + fields::length_at(file, at);
         let first = coefficients::start(w, h, level);
@@ -94,6 +89,5 @@ pub fn load_levels(
             level,
         );
         at = end;
-        level += 1;
     }
 }

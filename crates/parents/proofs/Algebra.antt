@@ -1,7 +1,7 @@
 -- Parents from their children, of integers.
 use mathlib.Core.Path.{◌≡◌, sym, ap, ◌∙◌}
 use mathlib.Core.List.{List, [], ◌∷◌}
-use Prim.Native.Nat.{ℕ, ◌+◌, ◌*◌, ◌≤◌, ◌<◌}
+use Prim.Native.Nat.{ℕ, ◌+◌, ◌-◌, ◌*◌, ◌≤◌, ◌<◌}
 use native.Mathlib.Nat.{le_refl}
 use native.Mathlib.Omega.{arith}
 use lib.Dec.{lit<}
@@ -117,23 +117,27 @@ module _ {a b c d p0 p1 p2 p3 : ℤ} where
         (t.1 m (h 3 (lit< tt)) h1 h2),
   )
 
-  pub far-is : SecondOf d c b p2 → OtherOf b p2 p1 → OtherOf d p2 p3 → ThirdOf a p2 p1 p0
-      → ParentsOf 1 a b c d (list p0 p1 p2 p3)
-  unfolding children_of
-  far-is s o o' t = (
-    λ p e.
-        let e2 = s.0 (p 3) (p 2) (p 1) (e 3 (lit< tt) ∙ even-comm (p 2) (p 3))
-        (e 2 (lit< tt) ∙ odd-mirror (p 1) (p 2) (p 3)) (e 1 (lit< tt) ∙ even-comm (p 1) (p 2)) in
-        let e1 = o.0 (p 1) (e 1 (lit< tt) ∙ ap (even_of (p 1)) (sym e2)) in
-        let e3 = o'.0 (p 3) (e 3 (lit< tt) ∙ even-comm (p 2) (p 3) ∙ ap (even_of (p 3)) (sym e2)) in
-        let e0 = t.0 (p 0) (e 0 (lit< tt) ∙ odd-mirror (p 0) (p 1) (p 2) ∙ (λ i. odd_of (sym e2 i) (sym e1 i) (p 0))) in
-        each (λ k. get_or (list p0 p1 p2 p3) k (pos 0) ≡ p k) e0 e1 e2 e3,
-    λ m h.
-        let h2 = s.1 m (h 3 (lit< tt)) (h 2 (lit< tt)) (h 1 (lit< tt)) in
-        let h1 = o.1 m (h 1 (lit< tt)) h2 in
-        each (λ k. nat_abs (get_or (list p0 p1 p2 p3) k (pos 0)) ≤ 49 * m)
-        (t.1 m (h 0 (lit< tt)) h2 h1) (omega arith) (omega arith) (omega (arith, o'.1 m (h 3 (lit< tt)) h2)),
-  )
+-- four numbers from the last to the first
+abbrev pub turned : List ℤ → List ℤ
+turned r = list (get_or r 3 (pos 0)) (get_or r 2 (pos 0)) (get_or r 1 (pos 0)) (get_or r 0 (pos 0))
+
+-- the parents of the mirrored row, mirrored, are those around the far half
+pub mirrored : {a b c d : ℤ} (r : List ℤ) → ParentsOf 0 d c b a r → ParentsOf 1 a b c d (turned r)
+unfolding children_of
+mirrored {a} {b} {c} {d} r f = (
+  λ p e.
+      let back = f.0 (λ k. p (3 - k))
+      (each (λ k. get_or (list d c b a) k (pos 0) ≡ get_or (children_of 0 (p 3) (p 2) (p 1) (p 0)) k (pos 0))
+      (e 3 (lit< tt) ∙ even-comm (p 2) (p 3)) (e 2 (lit< tt) ∙ odd-mirror (p 1) (p 2) (p 3))
+      (e 1 (lit< tt) ∙ even-comm (p 1) (p 2)) (e 0 (lit< tt) ∙ odd-mirror (p 0) (p 1) (p 2))) in
+      each (λ k. get_or (turned r) k (pos 0) ≡ p k)
+      (back 3 (lit< tt)) (back 2 (lit< tt)) (back 1 (lit< tt)) (back 0 (lit< tt)),
+  λ m h.
+      let back = f.1 m (each (λ k. nat_abs (get_or (list d c b a) k (pos 0)) ≤ m)
+      (h 3 (lit< tt)) (h 2 (lit< tt)) (h 1 (lit< tt)) (h 0 (lit< tt))) in
+      each (λ k. nat_abs (get_or (turned r) k (pos 0)) ≤ 49 * m)
+      (back 3 (lit< tt)) (back 2 (lit< tt)) (back 1 (lit< tt)) (back 0 (lit< tt)),
+)
 
 -- of a row by its four numbers
 pub of_four : (half : ℕ) (row r : List ℤ) {a b c d : ℤ} → a ≡ get_or row 0 (pos 0) → b ≡ get_or row 1 (pos 0)

@@ -42,25 +42,17 @@ fn near(a: i64, b: i64, c: i64, d: i64) -> [i64; 4]
     [other(a, p1), p1, p2, third(d, p1, p2)]
 }
 
-// Those of four around the far half: the near one, mirrored.
-fn far(a: i64, b: i64, c: i64, d: i64) -> [i64; 4]
-    requires { Wide a × Wide b × Wide c × Wide d }
-    ensures { ParentsOf 1 a b c d result }
-{
-    let p2 = second(d, c, b);
-    let p1 = other(b, p2);
-    [third(a, p2, p1), p1, p2, other(d, p2)]
-}
-
-// The parents of a row in a half.
+// The parents of a row in a half; around the far half those of the mirrored row, mirrored.
 fn of_row(row: [i64; 4], half: usize) -> [i64; 4]
     requires { (half ≤ 1) × FourWide row }
     ensures { FourWithin half row result }
 {
+    let [a, b, c, d] = row;
     if half == 0 {
-        return near(row[0], row[1], row[2], row[3]);
+        return near(a, b, c, d);
     }
-    far(row[0], row[1], row[2], row[3])
+    let [p3, p2, p1, p0] = near(d, c, b, a);
+    [p0, p1, p2, p3]
 }
 
 // The i-th number of each of four rows.

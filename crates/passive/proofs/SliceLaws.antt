@@ -38,7 +38,7 @@ module _ {A : Type 0} where
     put_front : take (k + n) (put k n row out) ≡ take k out ++ row
     put_front = ap (take (k + n)) (sym (append_assoc (take k out) row _)) ∙ take_at (take k out ++ row) _ (k + n) both
 
-    pub put_rest : drop (k + n) (put k n row out) ≡ drop (k + n) out
+    put_rest : drop (k + n) (put k n row out) ≡ drop (k + n) out
     put_rest =
         ap (drop (k + n)) (sym (append_assoc (take k out) row _))
         ∙ drop_at (take k out ++ row) _ (k + n) both

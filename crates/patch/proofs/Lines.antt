@@ -1,16 +1,18 @@
 -- Lines of four numbers in a patch, each replaced by its children in place, one after the other.
 use mathlib.Core.Path.{◌≡◌, refl, sym, ap, ◌∙◌, transport}
+use mathlib.Core.Bool.{Bool, true, false, cond}
 use mathlib.Core.List.{List, [], ◌∷◌}
-use Prim.Native.Nat.{ℕ, zero, suc, ◌+◌, ◌*◌, ◌<◌}
+use Prim.Native.Nat.{ℕ, zero, suc, ◌<◌}
+use native.Mathlib.Omega.{arith}
 use lib.Dec.{lit<}
 use lib.IntN.{ℤ, ◌+ℤ◌}
 use mir.Syntax.{w64}
 use mir.Val.{SFits, to_z, of_z}
 use mir.ValLaws.{to_z-of_z}
 use Rattle.patch.specs.Patches.{entry, Bounded}
-use Rattle.patch.specs.Steps.{midway, AllSmall, even_of, odd_of, children_of, patch_of, FourByFour, placed, with_place}
-use Rattle.patch.specs.Steps.{Parents, with_line, with_children, along_v, along_u}
-use Rattle.patch.proofs.Four.{each, four}
+use Rattle.patch.specs.Steps.{midway, Small, even_of, odd_of, children_of, patch_of, FourByFour, placed, with_place}
+use Rattle.patch.specs.Steps.{Parents, with_line, with_children, place, along_v, along_u}
+use Rattle.patch.proofs.Four.{each-of-each, four}
 
 -- a number that a call gave, as it is passed on
 pub given : {a r : ℤ} → SFits w64 r → r ≡ a → to_z w64 (of_z w64 r) ≡ a
@@ -44,72 +46,66 @@ line g p i j k l e₁ e₂ e₃ e₄ c = rw (e₄, e₃, e₂, e₁) (ap (with_l
 
 -- ---- the lines of a direction, one after the other
 
--- the place of number n of line m: of a row, and of a column
-abbrev pub across : ℕ → ℕ → ℕ
-across m n = 4 * m + n
-
-abbrev pub down : ℕ → ℕ → ℕ
-down m n = 4 * n + m
-
 -- the patch with the first n lines done
-abbrev pub lines_done : (ℕ → ℕ → ℕ) → ℕ → List (List ℤ) → ℕ → List (List ℤ)
-lines_done w h p zero = p
-lines_done w h p (suc n) = with_children h (lines_done w h p n) (w n 0) (w n 1) (w n 2) (w n 3)
-
-pub next : (w : ℕ → ℕ → ℕ) (h : ℕ) (p : List (List ℤ)) (n : ℕ) {q r : List (List ℤ)} → q ≡ lines_done w h p n
-    → r ≡ with_children h q (w n 0) (w n 1) (w n 2) (w n 3) → r ≡ lines_done w h p (suc n)
-next w h p n e f = f ∙ ap (λ q. with_children h q (w n 0) (w n 1) (w n 2) (w n 3)) e
+abbrev pub lines_done : Bool → ℕ → List (List ℤ) → ℕ → List (List ℤ)
+lines_done v h p zero = p
+lines_done v h p (suc n) =
+    with_children h (lines_done v h p n) (place v n 0) (place v n 1) (place v n 2) (place v n 3)
 
 -- what holds of the sixteen numbers holds of the patch
 of-entries : (P : List (List ℤ) → Type 0) (p : List (List ℤ)) → FourByFour p → P (patch_of (entry p)) → P p
 of-entries P p s h = transport (λ i. P (sym s i)) h
 
--- the parents of a line that is left are as they were
-abbrev Left : (ℕ → ℕ → ℕ) → ℕ → ℕ → List (List ℤ) → Type 0
-Left w h n p = Parents (lines_done w h p n) (w n 0) (w n 1) (w n 2) (w n 3)
+-- a line's places are in the patch
+inside : (v : Bool) (m n : ℕ) → m < 4 → n < 4 → place v m n < 16
+inside true m n hm hn = omega arith
+inside false m n hm hn = omega arith
 
-module _ (h : ℕ) (p : List (List ℤ)) (s : FourByFour p) where
-  module _ (b : Bounded midway p) where
-    row-parents : (n : ℕ) → n < 4 → Left across h n (patch_of (entry p))
-    unfolding with_children
-    row-parents =
-        let small : (k : ℕ) → k < 4 → AllSmall (entry p k 0) (entry p k 1) (entry p k 2) (entry p k 3) =
-        λ k hk. (b k 0 hk (lit< tt), b k 1 hk (lit< tt), b k 2 hk (lit< tt), b k 3 hk (lit< tt)) in
-        each (λ n. Left across h n (patch_of (entry p)))
-        (lit< tt, lit< tt, lit< tt, lit< tt, small 0 (lit< tt)) (lit< tt, lit< tt, lit< tt, lit< tt, small 1 (lit< tt))
-        (lit< tt, lit< tt, lit< tt, lit< tt, small 2 (lit< tt)) (lit< tt, lit< tt, lit< tt, lit< tt, small 3 (lit< tt))
+-- the numbers of a line that is left are as they were
+untouched : (v : Bool) (h : ℕ) (f : ℕ → ℕ → ℤ) (m n : ℕ) → m < 4 → n < 4
+    → placed (lines_done v h (patch_of f) m) (place v m n) ≡ cond v (f m n) (f n m)
+unfolding with_children
+untouched true h f =
+    each-of-each (λ m n. placed (lines_done true h (patch_of f) m) (place true m n) ≡ f m n)
+    refl refl refl refl refl refl refl refl refl refl refl refl refl refl refl refl
+untouched false h f =
+    each-of-each (λ m n. placed (lines_done false h (patch_of f) m) (place false m n) ≡ f n m)
+    refl refl refl refl refl refl refl refl refl refl refl refl refl refl refl refl
 
-    pub row-left : (n : ℕ) → n < 4 → {q : List (List ℤ)} → q ≡ lines_done across h p n
-        → Parents q (across n 0) (across n 1) (across n 2) (across n 3)
-    row-left n hn e = rw e (of-entries (Left across h n) p s (row-parents n hn))
+small : (v : Bool) (p : List (List ℤ)) → Bounded midway p → (m n : ℕ) → m < 4 → n < 4
+    → Small (cond v (entry p m n) (entry p n m))
+small true p b m n hm hn = b m n hm hn
+small false p b m n hm hn = b n m hn hm
 
-    column-parents : (n : ℕ) → n < 4 → Left down h n (patch_of (entry p))
-    unfolding with_children
-    column-parents =
-        let small : (l : ℕ) → l < 4 → AllSmall (entry p 0 l) (entry p 1 l) (entry p 2 l) (entry p 3 l) =
-        λ l hl. (b 0 l (lit< tt) hl, b 1 l (lit< tt) hl, b 2 l (lit< tt) hl, b 3 l (lit< tt) hl) in
-        each (λ n. Left down h n (patch_of (entry p)))
-        (lit< tt, lit< tt, lit< tt, lit< tt, small 0 (lit< tt)) (lit< tt, lit< tt, lit< tt, lit< tt, small 1 (lit< tt))
-        (lit< tt, lit< tt, lit< tt, lit< tt, small 2 (lit< tt)) (lit< tt, lit< tt, lit< tt, lit< tt, small 3 (lit< tt))
+-- so children can be made of them
+module _ (v : Bool) (h : ℕ) (p : List (List ℤ)) (s : FourByFour p) (b : Bounded midway p) (m : ℕ) (hm : m < 4) where
+  left : (n : ℕ) → n < 4 → Small (placed (lines_done v h p m) (place v m n))
+  left n hn =
+      of-entries (λ q. Small (placed (lines_done v h q m) (place v m n))) p s
+      (rw (untouched v h (entry p) m n hm hn) (small v p b m n hm hn))
 
-    pub column-left : (n : ℕ) → n < 4 → {q : List (List ℤ)} → q ≡ lines_done down h p n
-        → Parents q (down n 0) (down n 1) (down n 2) (down n 3)
-    column-left n hn e = rw e (of-entries (Left down h n) p s (column-parents n hn))
+  pub parents : {q : List (List ℤ)} {i j k l : ℕ} → q ≡ lines_done v h p m
+      → i ≡ place v m 0 → j ≡ place v m 1 → k ≡ place v m 2 → l ≡ place v m 3 → Parents q i j k l
+  parents e ei ej ek el =
+      let at : (n : ℕ) → n < 4 → (place v m n < 16) × Small (placed (lines_done v h p m) (place v m n)) =
+      λ n hn. (inside v m n hm hn, left n hn) in
+      let x = at 0 (lit< tt) in
+      let y = at 1 (lit< tt) in
+      let z = at 2 (lit< tt) in
+      let t = at 3 (lit< tt) in
+      rw (e, ei, ej, ek, el) (x.0, y.0, z.0, t.0, (x.1, y.1, z.1, t.1))
 
-  -- with all four done
-  rows-done : lines_done across h (patch_of (entry p)) 4 ≡ along_v h (patch_of (entry p))
-  unfolding with_children along_v
-  rows-done = refl
+-- with all four done
+all-done : (v : Bool) (h : ℕ) (f : ℕ → ℕ → ℤ)
+    → lines_done v h (patch_of f) 4 ≡ cond v (along_v h (patch_of f)) (along_u h (patch_of f))
+unfolding with_children along_v along_u
+all-done true h f = refl
+all-done false h f = refl
 
-  pub rows : lines_done across h p 4 ≡ along_v h p
-  rows = of-entries (λ q. lines_done across h q 4 ≡ along_v h q) p s rows-done
-
-  columns-done : lines_done down h (patch_of (entry p)) 4 ≡ along_u h (patch_of (entry p))
-  unfolding with_children along_u
-  columns-done = refl
-
-  pub columns : lines_done down h p 4 ≡ along_u h p
-  columns = of-entries (λ q. lines_done down h q 4 ≡ along_u h q) p s columns-done
+pub done : (v : Bool) (h : ℕ) (p : List (List ℤ)) → FourByFour p
+    → lines_done v h p 4 ≡ cond v (along_v h p) (along_u h p)
+done v h p s =
+    of-entries (λ q. lines_done v h q 4 ≡ cond v (along_v h q) (along_u h q)) p s (all-done v h (entry p))
 
 -- the rows of a step are four of four again
 pub along-v-four : (h : ℕ) (p : List (List ℤ)) → FourByFour (along_v h p)

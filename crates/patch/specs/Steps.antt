@@ -1,5 +1,5 @@
 -- What the private functions compute.
-use Rattle.std.specs.Prelude.{cond, ◌≡◌, List, [], ◌∷◌, ℕ, ◌*◌, ◌/◌, ◌%◌, ◌≤◌, ◌<◌, ℤ, pos, nat_abs, ◌+ℤ◌, ◌*ℤ◌, eqb, get_or, set}
+use Rattle.std.specs.Prelude.{Bool, cond, ◌≡◌, List, [], ◌∷◌, ℕ, ◌+◌, ◌*◌, ◌/◌, ◌%◌, ◌≤◌, ◌<◌, ℤ, pos, nat_abs, ◌+ℤ◌, ◌*ℤ◌, eqb, get_or, set}
 use Rattle.patch.specs.Patches.{entry}
 
 -- the largest entry between the two directions of a step: 8 times 131072000
@@ -68,6 +68,10 @@ with_line p i j k l x =
 -- the patch with the children in half g of four parents at the parents' places
 unfoldable pub with_children : ℕ → List (List ℤ) → ℕ → ℕ → ℕ → ℕ → List (List ℤ)
 with_children g p i j k l = with_line p i j k l (children_of g (placed p i) (placed p j) (placed p k) (placed p l))
+
+-- the place of number n of line m: of a row along v, of a column along u
+abbrev pub place : Bool → ℕ → ℕ → ℕ
+place v m n = cond v (4 * m + n) (4 * n + m)
 
 -- a step along v: each row has its children in half h
 unfoldable pub along_v : ℕ → List (List ℤ) → List (List ℤ)

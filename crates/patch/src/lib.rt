@@ -3,10 +3,10 @@
 // is given: its functions take numbers, or are lent that array.
 #![tactic(auto)]
 
-ghost use Rattle.std.specs.Prelude.{◌≡◌, ◌≤◌, ◌<◌, ℤ, ◌+ℤ◌};
+ghost use Rattle.std.specs.Prelude.{◌≡◌, cond, ◌≤◌, ◌<◌, ℤ, ◌+ℤ◌};
 ghost use Rattle.patch.specs.Patches.{Bounded, Subdivided};
 ghost use Rattle.patch.specs.Steps.{midway, Small, Paired, even_of, odd_of, FourByFour, placed, with_place};
-ghost use Rattle.patch.specs.Steps.{Parents, with_children, along_v, along_u};
+ghost use Rattle.patch.specs.Steps.{Parents, with_children, place, along_v, along_u};
 
 // An even child, of two parents in a row.
 pub fn even(x: i64, y: i64) -> i64
@@ -56,10 +56,10 @@ fn put(r: &mut [[i64; 4]; 4], n: usize, x: i64)
     r[n / 4][n % 4] = x;
 }
 
-// The children in half 0 of four parents in a row, put at their parents' places.
-fn half_0(r: &mut [[i64; 4]; 4], i: usize, j: usize, k: usize, l: usize)
-    requires { Parents r.old i j k l }
-    ensures { r.new ≡ with_children 0 r.old i j k l }
+// The children in one half of four parents in a row, put at their parents' places.
+fn children<const HALF: usize>(r: &mut [[i64; 4]; 4], i: usize, j: usize, k: usize, l: usize)
+    requires { (HALF ≤ 1) × Parents r.old i j k l }
+    ensures { r.new ≡ with_children HALF r.old i j k l }
 {
     let a = at(r, i);
     let b = at(r, j);
@@ -68,63 +68,52 @@ fn half_0(r: &mut [[i64; 4]; 4], i: usize, j: usize, k: usize, l: usize)
     let ab = pair(a, b);
     let bc = pair(b, c);
     let cd = pair(c, d);
-    put(r, i, even(a, b));
-    put(r, j, odd_of_pairs(bc, b, ab));
-    put(r, k, even(b, c));
-    put(r, l, odd_of_pairs(cd, c, bc));
-}
-
-// Those in half 1.
-fn half_1(r: &mut [[i64; 4]; 4], i: usize, j: usize, k: usize, l: usize)
-    requires { Parents r.old i j k l }
-    ensures { r.new ≡ with_children 1 r.old i j k l }
-{
-    let a = at(r, i);
-    let b = at(r, j);
-    let c = at(r, k);
-    let d = at(r, l);
-    let ab = pair(a, b);
-    let bc = pair(b, c);
-    let cd = pair(c, d);
-    put(r, i, odd_of_pairs(bc, b, ab));
-    put(r, j, even(b, c));
-    put(r, k, odd_of_pairs(cd, c, bc));
-    put(r, l, even(c, d));
-}
-
-// A step along v, row by row. Each half has calls of its own, so that the test is made once.
-fn along_v(r: &mut [[i64; 4]; 4], h: usize)
-    requires { (h ≤ 1) × FourByFour r.old × Bounded midway r.old }
-    ensures { r.new ≡ along_v h r.old }
-{
-    if h == 0 {
-        half_0(r, 0, 1, 2, 3);
-        half_0(r, 4, 5, 6, 7);
-        half_0(r, 8, 9, 10, 11);
-        half_0(r, 12, 13, 14, 15);
+    if HALF == 0 {
+        put(r, i, even(a, b));
+        put(r, j, odd_of_pairs(bc, b, ab));
+        put(r, k, even(b, c));
+        put(r, l, odd_of_pairs(cd, c, bc));
     } else {
-        half_1(r, 0, 1, 2, 3);
-        half_1(r, 4, 5, 6, 7);
-        half_1(r, 8, 9, 10, 11);
-        half_1(r, 12, 13, 14, 15);
+        put(r, i, odd_of_pairs(bc, b, ab));
+        put(r, j, even(b, c));
+        put(r, k, odd_of_pairs(cd, c, bc));
+        put(r, l, even(c, d));
     }
 }
 
-// A step along u, column by column.
-fn along_u(r: &mut [[i64; 4]; 4], g: usize)
-    requires { (g ≤ 1) × FourByFour r.old × Bounded midway r.old }
-    ensures { r.new ≡ along_u g r.old }
+// The place of number n of a line: along v the lines are rows, along u columns.
+fn place<const ALONG_V: bool>(line: usize, n: usize) -> usize
+    requires { (line < 4) × (n < 4) }
+    ensures { result ≡ place ALONG_V line n }
 {
-    if g == 0 {
-        half_0(r, 0, 4, 8, 12);
-        half_0(r, 1, 5, 9, 13);
-        half_0(r, 2, 6, 10, 14);
-        half_0(r, 3, 7, 11, 15);
+    if ALONG_V { 4 * line + n } else { 4 * n + line }
+}
+
+// The children in one half of all four lines.
+fn each_line<const ALONG_V: bool, const HALF: usize>(r: &mut [[i64; 4]; 4])
+    requires { (HALF ≤ 1) × FourByFour r.old × Bounded midway r.old }
+    ensures { r.new ≡ cond ALONG_V (along_v HALF r.old) (along_u HALF r.old) }
+{
+    for line in 0..4 {
+        children::<HALF>(
+            r,
+            place::<ALONG_V>(line, 0),
+            place::<ALONG_V>(line, 1),
+            place::<ALONG_V>(line, 2),
+            place::<ALONG_V>(line, 3),
+        );
+    }
+}
+
+// A step along v or along u. Each half has code of its own, so that the test is made once.
+fn along<const ALONG_V: bool>(r: &mut [[i64; 4]; 4], half: usize)
+    requires { (half ≤ 1) × FourByFour r.old × Bounded midway r.old }
+    ensures { r.new ≡ cond ALONG_V (along_v half r.old) (along_u half r.old) }
+{
+    if half == 0 {
+        each_line::<ALONG_V, 0>(r);
     } else {
-        half_1(r, 0, 4, 8, 12);
-        half_1(r, 1, 5, 9, 13);
-        half_1(r, 2, 6, 10, 14);
-        half_1(r, 3, 7, 11, 15);
+        each_line::<ALONG_V, 1>(r);
     }
 }
 
@@ -134,7 +123,7 @@ pub fn subdivide(p: [[i64; 4]; 4], g: usize, h: usize) -> [[i64; 4]; 4]
     ensures { Subdivided g h p result }
 {
     let mut r = p;
-    along_v(&mut r, h);
-    along_u(&mut r, g);
+    along::<true>(&mut r, h);
+    along::<false>(&mut r, g);
     r
 }

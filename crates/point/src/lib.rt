@@ -14,7 +14,7 @@ ghost use Rattle.rows.specs.Rows.{level_rows};
 ghost use Rattle.point.specs.OfTable.{OfTable, ReadAs};
 
 // The numerator over D at (u, v), and where they are asked for both slopes, over D/16 in watts per eighth of a cell;
-// else 0 in their place.
+// else 0 in their place. A flag and no type parameter, so that the steps of a reading are compiled once.
 pub fn read_at(
     numbers: &[i64],
     rows: &[u32; 96],

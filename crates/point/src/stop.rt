@@ -31,9 +31,7 @@ pub fn patch_of(
         (stop_level w h (levels_of rows.now) u v) result }
 {
     let mut patch = super::step::coarsest(numbers, w, h, u, v);
-    let mut level = 0;
-    while level < stop {
-        level += 1;
+    for level in 1..=stop {
         let next = super::step::finer(patch, numbers, rows, w, h, level, u, v);
         patch = next;
     }

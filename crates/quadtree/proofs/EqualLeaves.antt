@@ -1,9 +1,14 @@
 -- Four trees that are written one after the other: when they are equal leaves.
-use mathlib.Core.List.{List}
+use mathlib.Core.List.{List, [], ◌∷◌}
 use mathlib.Core.Path.{◌≡◌, ap, ◌∙◌}
-use Prim.Native.Nat.{ℕ, ◌+◌, ◌≤◌, ◌<◌}
+use Prim.Native.Nat.{ℕ, ◌+◌, ◌-◌, ◌≤◌, ◌<◌}
 use native.Mathlib.Omega.{arith}
-use lib.ListN.{length, get_or, length-append}
+use lib.Dec.{eqb}
+use lib.ListN.{length, get_or, take, drop, length-append}
+use Rattle.std.specs.Prelude.{nat_eq}
+use Rattle.std.specs.List.{list_all, slice_range}
+use Rattle.std.proofs.lemmas.Bool.Decides.{nat_tests}
+use Rattle.std.proofs.lemmas.List.{drop_more}
 use borrow.Author.Tests.{eq-eqb, ne_eqb}
 use Rattle.surface.specs.Quadtree.{Quadtree, leaf, split, bytes, equal_leaves}
 use Rattle.quadtree.specs.Subtree.{row}
@@ -35,3 +40,25 @@ equal-bytes (leaf l) (leaf m) (split a b c d) ne t at end e same =
 equal-bytes (leaf l) (leaf m) (leaf n) (split a b c d) t at end e same =
     rw (ne_eqb end (at + 4) λ four.
     omega (arith, row-length (leaf l) (leaf m) (leaf n) (split a b c d), split-long a b c d))
+
+-- ---- the test of four bytes
+
+three-bytes : (t : List ℕ) (at n : ℕ) → n ≡ 3 → at + 4 ≤ length t
+    → take n (drop (at + 1) t) ≡ get_or t (at + 1) 0 ∷ get_or t (at + 2) 0 ∷ get_or t (at + 3) 0 ∷ []
+three-bytes t at n three fits =
+    let second : at + 1 + 1 ≡ at + 2 = omega arith in
+    let third : at + 2 + 1 ≡ at + 3 = omega arith in
+    rw (
+      three,
+      drop_more t (at + 1) 0 (omega arith),
+      second,
+      drop_more t (at + 2) 0 (omega arith),
+      third,
+      drop_more t (at + 3) 0 (omega arith),
+    )
+
+pub same-bytes : (t : List ℕ) (at end : ℕ) → end ≡ at + 4 → end ≤ length t
+    → list_all (λ b. nat_eq b (get_or t at 0)) (slice_range t (at + 1) end) ≡ equal_bytes t at end
+same-bytes t at end four fits =
+    ap (list_all (λ b. nat_eq b (get_or t at 0))) (three-bytes t at (end - (at + 1)) (omega arith) (omega arith))
+    ∙ rw (eq-eqb end (at + 4) four) (grind (arith, nat_tests))

@@ -5,6 +5,8 @@ ghost use Rattle.std.specs.Prelude.{◌≡◌};
 ghost use Rattle.surface.specs.Calls.{least_outcome, activity_outcome, SliceMeets};
 ghost use Rattle.answers.specs.Answers.{least_answer, outcome_answer};
 
+use answers::{LevelsUnder, Refusal};
+
 // The least and the greatest level under the box with corners (u0, v0) and (u1, v1), in quarters, with the nodes
 // visited.
 pub fn least_level(
@@ -15,26 +17,20 @@ pub fn least_level(
     v0: usize,
     u1: usize,
     v1: usize,
-) -> answers::Least
+) -> Result<LevelsUnder, Refusal>
     ensures { least_answer result
         ≡ least_outcome w h tree.now (record { u0 = u0; v0 = v0; u1 = u1; v1 = v1 }) }
 {
     let mut rows = [0u32; 96];
-    let region = table::cause::region_cause(w, h, tree, &mut rows);
-    if region != 0 {
-        return answers::Least::Refused(region);
-    }
+    table::cause::region_cause(w, h, tree, &mut rows)?;
     let b = boxes::Box { u0, v0, u1, v1 };
-    let past = table::cause::box_cause(w, h, b);
-    if past != 0 {
-        return answers::Least::Refused(past);
-    }
+    table::cause::box_cause(w, h, b)?;
     let found = leastlevel::under(tree, w, h, b);
-    answers::Least::Levels {
+    Ok(LevelsUnder {
         least: found.least as u8,
         greatest: found.greatest as u8,
         visited: found.visited,
-    }
+    })
 }
 
 // The activity of a level: one byte for each place, 1 where the function is active, else 0.
@@ -44,23 +40,20 @@ pub fn activity_of(
     tree: &[u8],
     level: usize,
     out: &mut [u8],
-) -> answers::Outcome
+) -> Result<(), Refusal>
     ensures { SliceMeets (activity_outcome w h tree.now level out.old) (outcome_answer result)
         out.new }
 {
     let mut rows = [0u32; 96];
-    let region = table::cause::region_cause(w, h, tree, &mut rows);
-    if region != 0 {
-        return answers::Outcome::Refused(region);
-    }
+    table::cause::region_cause(w, h, tree, &mut rows)?;
     if 3 < level {
-        return answers::Outcome::Refused(8);
+        return Err(Refusal::Level);
     }
     if out.len() != coefficients::places(w, h, level) {
-        return answers::Outcome::Refused(16);
+        return Err(Refusal::OutputLength);
     }
     let n = coefficients::functions(w, level);
     let m = coefficients::functions(h, level);
     activity::mark::mark_level(&rows, w, h, level, n, m, out);
-    answers::Outcome::Done
+    Ok(())
 }

@@ -9,9 +9,12 @@ ghost use Rattle.surface.specs.Slopes.{slopes_outcome, SlopesMeet};
 ghost use Rattle.rows.specs.Rows.{level_rows};
 ghost use Rattle.demands.specs.Promises.{ExactPromise};
 ghost use Rattle.readings.specs.Found.{FoundMeets};
-ghost use Rattle.answers.specs.Answers.{watts_answer, slopes_answer, display_answer, cost_answer};
+ghost use Rattle.answers.specs.Answers.{value_answer, slopes_answer};
+ghost use Rattle.answers.specs.Refusals.{cause_of};
 
-// The cause for which a table is not read at a point, 1 to 6, or 0; the regions of a table that is.
+use answers::{Refusal, WattsAndSlopes};
+
+// The cause for which a table is not read at a point, 1 to 6; else the regions of the table.
 fn cause_at(
     w: usize,
     h: usize,
@@ -20,52 +23,51 @@ fn cause_at(
     u: usize,
     v: usize,
     rows: &mut [u32; 96],
-) -> u8
-    ensures { (result ≡ reading_cause w h tree.now numbers.now u v)
-        × (result ≡ 0 → rows.new ≡ level_rows tree.now) }
+) -> Result<(), Refusal>
+    ensures { (cause_of result ≡ reading_cause w h tree.now numbers.now u v)
+        × (cause_of result ≡ 0 → rows.new ≡ level_rows tree.now) }
 {
-    let refusal = table::cause::check(w, h, tree, numbers, rows);
-    if refusal != 0 {
-        return refusal;
-    }
+    table::cause::check(w, h, tree, numbers, rows)?;
     if 128 * w < u {
-        return 6;
+        return Err(Refusal::Point);
     }
     if 128 * h < v {
-        return 6;
+        return Err(Refusal::Point);
     }
-    0
+    Ok(())
 }
 
-// What is read at a point, or the cause for which it is not.
-#[derive(Clone, Copy)]
-enum Found {
-    At(evaluation::Slopes),
-    Refused(u8),
-}
-
-// The exact reading, and where they are asked for both slopes. All calls here go through this one, so that the steps of
-// a reading are compiled once, into it.
-fn read(w: usize, h: usize, tree: &[u8], numbers: &[i64], u: usize, v: usize, sloped: bool) -> Found
+// The exact reading, and where they are asked for both slopes: a flag and no type parameter, so that the steps of a
+// reading are compiled once, into this function, for all calls here.
+fn read(
+    w: usize,
+    h: usize,
+    tree: &[u8],
+    numbers: &[i64],
+    u: usize,
+    v: usize,
+    sloped: bool,
+) -> Result<evaluation::Slopes, Refusal>
     ensures { FoundMeets w h tree.now numbers.now u v sloped result }
 {
     let mut rows = [0u32; 96];
-    let refusal = cause_at(w, h, tree, numbers, u, v, &mut rows);
-    if refusal != 0 {
-        return Found::Refused(refusal);
-    }
-    Found::At(point::read_at(numbers, &rows, w, h, u, v, sloped))
+    cause_at(w, h, tree, numbers, u, v, &mut rows)?;
+    Ok(point::read_at(numbers, &rows, w, h, u, v, sloped))
 }
 
 // The exact reading at (u, v), in steps of 1/128 cell: a numerator over D = 36 × 2^42.
-pub fn exact(w: usize, h: usize, tree: &[u8], numbers: &[i64], u: usize, v: usize) -> answers::Exact
+pub fn exact(
+    w: usize,
+    h: usize,
+    tree: &[u8],
+    numbers: &[i64],
+    u: usize,
+    v: usize,
+) -> Result<i64, Refusal>
     ensures { ExactPromise w h (record { tree = tree.now; numbers = numbers.now }) u v result }
 {
-    let r = read(w, h, tree, numbers, u, v, false);
-    match r {
-        Found::At(x) => answers::Exact::Numerator(x.watts),
-        Found::Refused(c) => answers::Exact::Refused(c),
-    }
+    let x = read(w, h, tree, numbers, u, v, false)?;
+    Ok(x.watts)
 }
 
 // The watts as an f64, within 2^-30 of the exact reading.
@@ -76,14 +78,11 @@ pub fn watts(
     numbers: &[i64],
     u: usize,
     v: usize,
-) -> answers::Reading
-    ensures { FloatMeets (exact_outcome w h tree.now numbers.now u v) (watts_answer result) }
+) -> Result<f64, Refusal>
+    ensures { FloatMeets (exact_outcome w h tree.now numbers.now u v) (value_answer result) }
 {
-    let r = exact(w, h, tree, numbers, u, v);
-    match r {
-        answers::Exact::Numerator(n) => answers::Reading::Watts(floating::watts(n)),
-        answers::Exact::Refused(c) => answers::Reading::Refused(c),
-    }
+    let n = exact(w, h, tree, numbers, u, v)?;
+    Ok(floating::watts(n))
 }
 
 // The watts and both slopes as f64s, in watts per eighth of a cell: watts within 2^-30 of the exact reading, slopes
@@ -95,18 +94,15 @@ pub fn slopes(
     numbers: &[i64],
     u: usize,
     v: usize,
-) -> answers::Slopes
+) -> Result<WattsAndSlopes, Refusal>
     ensures { SlopesMeet (slopes_outcome w h tree.now numbers.now u v) (slopes_answer result) }
 {
-    let r = read(w, h, tree, numbers, u, v, true);
-    match r {
-        Found::At(x) => answers::Slopes::Given(answers::WattsAndSlopes {
-            watts: floating::watts(x.watts),
-            along_u: floating::slope(x.along_u),
-            along_v: floating::slope(x.along_v),
-        }),
-        Found::Refused(c) => answers::Slopes::Refused(c),
-    }
+    let x = read(w, h, tree, numbers, u, v, true)?;
+    Ok(WattsAndSlopes {
+        watts: floating::watts(x.watts),
+        along_u: floating::slope(x.along_u),
+        along_v: floating::slope(x.along_v),
+    })
 }
 
 // The exact watts to the nearest whole number, halves upward.
@@ -117,14 +113,11 @@ pub fn display(
     numbers: &[i64],
     u: usize,
     v: usize,
-) -> answers::Display
-    ensures { display_answer result ≡ display_outcome w h tree.now numbers.now u v }
+) -> Result<i64, Refusal>
+    ensures { value_answer result ≡ display_outcome w h tree.now numbers.now u v }
 {
-    let r = exact(w, h, tree, numbers, u, v);
-    match r {
-        answers::Exact::Numerator(n) => answers::Display::Watts(rounding::whole_watts(n)),
-        answers::Exact::Refused(c) => answers::Display::Refused(c),
-    }
+    let n = exact(w, h, tree, numbers, u, v)?;
+    Ok(rounding::whole_watts(n))
 }
 
 // Cost per hour in hundredths of a cent, by a tariff in hundredths of a cent per kWh; rounded once, from the exact
@@ -137,17 +130,12 @@ pub fn cost(
     u: usize,
     v: usize,
     tariff: usize,
-) -> answers::Cost
-    ensures { cost_answer result ≡ cost_outcome w h tree.now numbers.now u v tariff }
+) -> Result<usize, Refusal>
+    ensures { value_answer result ≡ cost_outcome w h tree.now numbers.now u v tariff }
 {
-    let r = exact(w, h, tree, numbers, u, v);
-    match r {
-        answers::Exact::Numerator(n) => {
-            if 99999 < tariff {
-                return answers::Cost::Refused(11);
-            }
-            answers::Cost::Hundredths(rounding::cost_of(n, tariff))
-        }
-        answers::Exact::Refused(c) => answers::Cost::Refused(c),
+    let n = exact(w, h, tree, numbers, u, v)?;
+    if 99999 < tariff {
+        return Err(Refusal::Tariff);
     }
+    Ok(rounding::cost_of(n, tariff))
 }

@@ -1,8 +1,9 @@
 -- The run that is written out, by computing each call's outcome.
+use Rattle.std.specs.Prelude.{Ok, Err}
 use mathlib.Core.Path.{refl}
 use Rattle.finite.specs.Range.{table_from}
 use Rattle.surface.specs.Window.{record_outcome, folded, figures_outcome}
-use Rattle.answers.specs.declared.Recorded.TheVariants.{State, Refused}
+use Rattle.answers.specs.declared.Refusal.TheVariants.{Record}
 use Rattle.records.specs.Lists.{Kept, standing}
 use Rattle.records.specs.Run.{accepted}
 use Rattle.records.specs.Cases.{RunWrittenOut}
@@ -15,12 +16,12 @@ run-written-out =
         begun = refl;
         none = refl;
         made = (
-          (State (record { held = 1; oldest = 1 }), (refl, refl), refl, refl),
+          (Ok (record { held = 1; oldest = 1 }), (refl, refl), refl, refl),
           (
-            (Refused 23, (refl, refl), refl, refl),
+            (Err Record, (refl, refl), refl, refl),
             (
-              (State (record { held = 2; oldest = 1 }), (refl, refl), refl, refl),
-              ((State (record { held = 2; oldest = 0 }), (refl, refl), refl, refl), tt),
+              (Ok (record { held = 2; oldest = 1 }), (refl, refl), refl, refl),
+              ((Ok (record { held = 2; oldest = 0 }), (refl, refl), refl, refl), tt),
             ),
           ),
         );

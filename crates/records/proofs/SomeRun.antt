@@ -1,13 +1,17 @@
 -- There is a run of each list of records: the outcome of each call is an answer that it can give.
+use Rattle.std.specs.Prelude.{Some, None, Result, Ok, Err}
 use mathlib.Core.Path.{◌≡◌, refl, ap₂}
+use mathlib.Core.Bool.{Bool, true, false}
 use mathlib.Core.List.{List, [], ◌∷◌, map}
-use Prim.Native.Nat.{ℕ, zero, suc}
 use lib.IntN.{ℤ, pos}
 use lib.ListN.{length}
-use Rattle.surface.specs.Calls.{Answer, refused, gives, answer}
-use Rattle.surface.specs.Window.{WindowState, window_cause, record_outcome, records_held, folded, lesser, greater, Figures}
+use Rattle.surface.specs.Table.{cause, ◌or_else◌}
+use Rattle.surface.specs.Calls.{Answer, answer}
+use Rattle.surface.specs.Window.{WindowState, new_state, record_outcome, records_held, folded, lesser, greater, Figures}
 use Rattle.surface.specs.Window.{figures_of, figures_outcome}
-use Rattle.answers.specs.declared.Recorded as recorded
+use Rattle.answers.specs.declared.Refusal as Causes
+use Rattle.answers.specs.declared.Refusal.{Refusal}
+use Rattle.answers.specs.declared.WindowState as state
 use Rattle.answers.specs.declared.Figures as figures
 use Rattle.answers.specs.Answers.{recorded_answer, figures_answer}
 use Rattle.answers.specs.Codes.{code_of, or_given, itself, missing_flag, or_held}
@@ -40,14 +44,18 @@ module _ (Added : Window → Call → Type 0) (Asked : Window → Answer Figures
 -- ---- the calls
 
 -- each outcome of a record is an answer's
-answered : (o : Answer WindowState) → (r : recorded.Recorded) × (recorded_answer r ≡ o)
-answered (refused n) = (recorded.TheVariants.Refused n, refl)
-answered (gives s) = (recorded.TheVariants.State (record { held = s.held; oldest = s.oldest }), refl)
+answered : (p q : Bool) (s : WindowState)
+    → (r : Result state.WindowState Refusal) × (recorded_answer r ≡ answer (cause 22 p or_else cause 23 q) s)
+answered true q s = (Err Causes.TheVariants.Window, refl)
+answered false true s = (Err Causes.TheVariants.Record, refl)
+answered false false s = (Ok (record { held = s.held; oldest = s.oldest }), refl)
 
 makes-added : (w : Window) (x : ℤ) → Made Added w x
+unfolding record_outcome
 makes-added w x =
     let o = record_outcome w.slice w.state x in
-    let a = answered o.result in (
+    let a : (r : Result state.WindowState Refusal) × (recorded_answer r ≡ o.result) =
+    answered _ _ (new_state (length w.slice) w.state) in (
       record {
         watts = x;
         told = o.result;
@@ -58,17 +66,25 @@ makes-added w x =
     )
 
 -- each outcome of the figures is an answer's
-figured : (k : ℕ) (xs : List ℤ) → (r : figures.Figures) × (figures_answer r ≡ answer k (figures_of xs))
-figured (suc k) xs = (figures.TheVariants.Refused (suc k), refl)
-figured zero [] = (figures.TheVariants.Missing, refl)
-figured zero (x ∷ xs) =
-    (figures.TheVariants.Held (figures_of (x ∷ xs)).total (folded lesser x xs) (folded greater x xs), refl)
+figured : (p : Bool) (xs : List ℤ)
+    → (r : Result figures.Figures Refusal) × (figures_answer r ≡ answer (cause 22 p) (figures_of xs))
+figured true xs = (Err Causes.TheVariants.Window, refl)
+figured false [] = (Ok (record { total = pos 0; extremes = None }), refl)
+figured false (x ∷ xs) = (
+  Ok (record {
+    total = (figures_of (x ∷ xs)).total;
+    extremes = Some (record { least = folded lesser x xs; greatest = folded greater x xs });
+  }),
+  refl,
+)
 
 asks-figures : (w : Window) → (told : Answer Figures) × FiguresAsked w told
 unfolding figures_outcome
 asks-figures w =
-    let f = figured (window_cause (length w.slice) w.state) (records_held w.slice w.state) in
-    (figures_outcome w.slice w.state, (f.0, f.1, f.1))
+    let o = figures_outcome w.slice w.state in
+    let f : (r : Result figures.Figures Refusal) × (figures_answer r ≡ o) =
+    figured _ (records_held w.slice w.state) in
+    (o, (f.0, f.1, f.1))
 
 pub run-of-calls : RunOfCalls
 run-of-calls = (run-of-added, some-run Added FiguresAsked makes-added asks-figures)

@@ -2,11 +2,13 @@
 -- alone: "After any run of records into one slice, refused ones included, ... these, for the state last left, equal the
 -- sum, least and greatest of the last ones accepted". A statement is parametrised by what it is to have made each call,
 -- so that it is said once for both. `EveryRun` is proved in proofs/Run.antt, the others in proofs/SomeRun.antt.
-use Rattle.std.specs.Prelude.{◌≡◌, ◌≢◌, cond, List, [], ◌∷◌, map, ℕ, zero, suc, ◌-◌, ◌≤◌, ◌<◌, min, ℤ, pos, nat_abs, ltb, length, get_or, drop}
+use Rattle.std.specs.Prelude.{◌≡◌, ◌≢◌, cond, List, [], ◌∷◌, map, ℕ, zero, suc, ◌-◌, ◌≤◌, ◌<◌, min, ℤ, pos, nat_abs}
+use Rattle.std.specs.Prelude.{ltb, length, get_or, drop, Result}
 use Rattle.surface.specs.Calls.{Answer, refused, gives, answer}
 use Rattle.surface.specs.Window.{WindowState, window_cause, place_after, records_held, missing, present, Figures}
 use Rattle.surface.specs.Window.{figures_of}
-use Rattle.answers.specs.declared.Recorded.{Recorded}
+use Rattle.answers.specs.declared.Refusal.{Refusal}
+use Rattle.answers.specs.declared.WindowState as state
 use Rattle.answers.specs.declared.Figures as declared
 use Rattle.answers.specs.Answers.{recorded_answer, figures_answer}
 use Rattle.records.specs.Lists.{Kept, standing}
@@ -32,12 +34,13 @@ state_left handed (gives s) = s
 
 abbrev pub Added : Window → Call → Type 0
 Added w c =
-    (r : Recorded) × RecordPromise w.slice w.state c.watts r c.left.slice × (recorded_answer r ≡ c.told)
-    × (c.left.state ≡ state_left w.state c.told)
+    (r : Result state.WindowState Refusal) × RecordPromise w.slice w.state c.watts r c.left.slice
+    × (recorded_answer r ≡ c.told) × (c.left.state ≡ state_left w.state c.told)
 
 -- The figures of a window were asked for, and this was told.
 abbrev pub FiguresAsked : Window → Answer Figures → Type 0
-FiguresAsked w told = (r : declared.Figures) × FiguresPromise w.slice w.state r × (figures_answer r ≡ told)
+FiguresAsked w told =
+    (r : Result declared.Figures Refusal) × FiguresPromise w.slice w.state r × (figures_answer r ≡ told)
 
 -- The same of the linked calls: the state left is what stands at the two parameters; a code of 0 tells it, and any
 -- other is the refusal number.

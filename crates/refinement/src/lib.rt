@@ -8,10 +8,13 @@ ghost use Rattle.surface.specs.Calls.{TableMeets, refinement_cause};
 ghost use Rattle.rows.specs.Rows.{level_rows, Nested};
 ghost use Rattle.boxes.specs.Boxes.{box_of};
 ghost use Rattle.carry.specs.Carried.{CarriedFit};
-ghost use Rattle.answers.specs.Answers.{length_answer};
+ghost use Rattle.answers.specs.Answers.{value_answer};
+ghost use Rattle.answers.specs.Refusals.{cause_of};
 ghost use Rattle.refinement.specs.Refined.{over_rows, refined_outcome};
 
-// The lowest cause of the table, the box and the level, or 0 with the table's regions.
+use answers::Refusal;
+
+// The lowest cause of the table, the box and the level; where none applies the table's regions.
 pub fn refinement_cause(
     w: usize,
     h: usize,
@@ -20,25 +23,19 @@ pub fn refinement_cause(
     b: boxes::Box,
     level: usize,
     rows: &mut [u32; 96],
-) -> u8
-    ensures { (result ≡ refinement_cause w h tree.now numbers.now (box_of b) level)
-        × (result ≡ 0 → rows.new ≡ level_rows tree.now) }
+) -> Result<(), Refusal>
+    ensures { (cause_of result ≡ refinement_cause w h tree.now numbers.now (box_of b) level)
+        × (cause_of result ≡ 0 → rows.new ≡ level_rows tree.now) }
 {
-    let refusal = table::cause::check(w, h, tree, numbers, rows);
-    if refusal != 0 {
-        return refusal;
-    }
-    let past = table::cause::box_cause(w, h, b);
-    if past != 0 {
-        return past;
-    }
+    table::cause::check(w, h, tree, numbers, rows)?;
+    table::cause::box_cause(w, h, b)?;
     if level < 1 {
-        return 8;
+        return Err(Refusal::Level);
     }
     if 3 < level {
-        return 8;
+        return Err(Refusal::Level);
     }
-    0
+    Ok(())
 }
 
 // Carries coefficients over from one table's regions to finer ones: carried values, and 0 at passive places.
@@ -69,20 +66,17 @@ pub fn write_refined(
     tree: &[u8],
     tree_out: &mut [u8],
     numbers_out: &mut [i64],
-) -> answers::Length
+) -> Result<usize, Refusal>
     requires { (w ≤ 8) × (h ≤ 8) × (length numbers.now ≡ slots w h)
         × Nested rows.now × Nested new.now × CarriedFit w h rows.now numbers.now }
     ensures { TableMeets
         (refined_outcome w h rows.now new.now numbers.now tree.now
         tree_out.old numbers_out.old)
-        (length_answer result) tree_out.new numbers_out.new }
+        (value_answer result) tree_out.new numbers_out.new }
 {
     let n = tree.len();
-    let late = coefficients::outputs_cause(w, h, n, tree_out, numbers_out);
-    if late != 0 {
-        return answers::Length::Refused(late);
-    }
+    coefficients::outputs_cause(w, h, n, tree_out, numbers_out)?;
     fields::put(tree, tree_out, 0);
     carry_over(numbers, rows, new, w, h, numbers_out);
-    answers::Length::Bytes(n)
+    Ok(n)
 }

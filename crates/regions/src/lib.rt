@@ -4,7 +4,7 @@
 #![tactic(auto)]
 
 ghost use Rattle.std.specs.Prelude.{◌≡◌, true, ◌+◌, ◌≤◌, ◌<◌, length};
-ghost use Rattle.boxes.specs.Boxes.{box_of, box_at};
+ghost use Rattle.boxes.specs.Boxes.{box_of};
 ghost use Rattle.rows.specs.Rows.{levels_of, Nested};
 ghost use Rattle.regions.specs.Regions.{LeafAt, Joined, Writable, BuiltFrom, TakesLevel, InsertedFrom, Inserted};
 
@@ -66,13 +66,13 @@ fn takes_level(
     x: usize,
     y: usize,
     side: usize,
-    corners: &[usize; 4],
+    b: &boxes::Box,
     level: usize,
 ) -> bool
     requires { (1 ≤ side) × (x + side ≤ 32) × (y + side ≤ 32) × (level ≤ 3) × Nested rows.now }
-    ensures { result ≡ true → TakesLevel x y side (box_at corners.now) level rows.now }
+    ensures { result ≡ true → TakesLevel x y side (box_of b.now) level rows.now }
 {
-    if !boxes::holds(x, y, side, corners) {
+    if !boxes::holds(x, y, side, b) {
         return false;
     }
     if level == 3 {
@@ -81,40 +81,40 @@ fn takes_level(
     rows::none_in(rows, level, x, y, side)
 }
 
-// Raises the quarters of the box with these corners that lie in the square of this side with low corner (x, y) to a
+// Raises the quarters of the box that lie in the square of this side with low corner (x, y) to a
 // level, writes the square's new tree from `at` on, and returns the position after it.
 fn insert_from(
     rows: &mut [u32; 96],
     x: usize,
     y: usize,
     side: usize,
-    corners: &[usize; 4],
+    b: &boxes::Box,
     level: usize,
     out: &mut [u8; 1365],
     at: usize,
 ) -> usize
     requires { Writable x y side at out.old × (level ≤ 3) × (length rows.old ≡ 96) × Nested rows.old }
-    ensures { InsertedFrom x y side (box_at corners.now) level rows.old
+    ensures { InsertedFrom x y side (box_of b.now) level rows.old
         rows.new at result
         out.old out.new }
 {
-    if !boxes::meets(x, y, side, corners) {
+    if !boxes::meets(x, y, side, b) {
         return build_from(rows, x, y, side, out, at);
     }
     if side == 1 {
-        rows::raise_quarter(rows, x, y, level);
+        rows::raise_square(rows, x, y, 1, level);
         let raised = rows::level_at(rows, x, y);
         return write_leaf(out, at, raised);
     }
-    if takes_level(rows, x, y, side, corners, level) {
+    if takes_level(rows, x, y, side, b, level) {
         rows::raise_square(rows, x, y, side, level);
         return write_leaf(out, at, level as u8);
     }
     let half = side / 2;
-    let p1 = insert_from(rows, x, y, half, corners, level, out, at + 1);
-    let p2 = insert_from(rows, x + half, y, half, corners, level, out, p1);
-    let p3 = insert_from(rows, x, y + half, half, corners, level, out, p2);
-    let end = insert_from(rows, x + half, y + half, half, corners, level, out, p3);
+    let p1 = insert_from(rows, x, y, half, b, level, out, at + 1);
+    let p2 = insert_from(rows, x + half, y, half, b, level, out, p1);
+    let p3 = insert_from(rows, x, y + half, half, b, level, out, p2);
+    let end = insert_from(rows, x + half, y + half, half, b, level, out, p3);
     join(out, at, end)
 }
 
@@ -123,6 +123,5 @@ pub fn insert(rows: &mut [u32; 96], b: boxes::Box, level: usize, out: &mut [u8; 
     requires { (level ≤ 3) × (length rows.old ≡ 96) × Nested rows.old × (length out.old ≡ 1365) }
     ensures { Inserted (box_of b) level rows.old rows.new result out.new }
 {
-    let corners = [b.u0, b.v0, b.u1, b.v1];
-    insert_from(rows, 0, 0, 32, &corners, level, out, 0)
+    insert_from(rows, 0, 0, 32, &b, level, out, 0)
 }

@@ -1,9 +1,8 @@
 // Whole watts and cost from the exact reading, by floor division.
 #![tactic(auto)]
 
-ghost use Rattle.std.specs.Prelude.{◌≡◌, ◌≤◌, ◌<◌, pos, nat_abs, ◌+ℤ◌, ◌*ℤ◌, ◌≤ℤ◌};
-ghost use Rattle.surface.specs.Truncation.{D};
-ghost use Rattle.surface.specs.Calls.{floor_div, whole_watts, cost_of};
+ghost use Rattle.std.specs.Prelude.{◌≡◌, ◌≤◌, nat_abs};
+ghost use Rattle.surface.specs.Calls.{whole_watts, cost_of};
 
 // D, the denominator of the exact readings: 36 × 2^42.
 const DENOMINATOR: i64 = 158329674399744;
@@ -11,40 +10,16 @@ const DENOMINATOR: i64 = 158329674399744;
 const HALF: i64 = DENOMINATOR / 2;
 
 // D again, for numbers that are not below zero, and half of 1,000 × D.
-const UNSIGNED_DENOMINATOR: usize = 158329674399744;
+const UNSIGNED_DENOMINATOR: usize = DENOMINATOR as usize;
 
 const HALF_OF_THOUSAND_D: usize = 500 * UNSIGNED_DENOMINATOR;
-
-// The floor of n/D, exact at every i64: the quotient toward zero, less 1 where its remainder is below zero.
-fn floor_over_d(n: i64) -> i64
-    ensures { result ≡ floor_div n D }
-{
-    let quotient = n / DENOMINATOR;
-    if n % DENOMINATOR < 0 {
-        quotient - 1
-    } else {
-        quotient
-    }
-}
-
-// What the floor of n/D leaves over of n, from 0 to D − 1.
-fn left_over(n: i64) -> i64
-    ensures { (n ≡ pos D *ℤ floor_div n D +ℤ result) × (pos 0 ≤ℤ result) × (nat_abs result < D) }
-{
-    let remainder = n % DENOMINATOR;
-    if remainder < 0 {
-        remainder + DENOMINATOR
-    } else {
-        remainder
-    }
-}
 
 // The exact watts n/D to the nearest whole number, halves upward, also below zero.
 pub fn whole_watts(n: i64) -> i64
     ensures { (result ≡ whole_watts n) × (nat_abs result ≤ 60000) }
 {
-    let floor = floor_over_d(n);
-    let left = left_over(n);
+    let floor = n.div_euclid(DENOMINATOR);
+    let left = n.rem_euclid(DENOMINATOR);
     if left < HALF { floor } else { floor + 1 }
 }
 

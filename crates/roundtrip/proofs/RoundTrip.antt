@@ -1,4 +1,5 @@
 -- From the promises of the calls to the round trips.
+use Rattle.std.specs.Prelude.{Result}
 use mathlib.Core.Path.{◌≡◌, refl, sym, ap, ap₂, ◌∙◌, subst}
 use mathlib.Core.Bool.{Bool, true}
 use mathlib.Core.List.{List, ◌++◌}
@@ -15,8 +16,8 @@ use Rattle.surface.specs.TableFile.{file_contents, FileResult, file_outcome, fil
 use Rattle.surface.specs.BenchLoading.{note_of, bench_outcome}
 use Rattle.surface.specs.Saving.{save_outcome}
 use Rattle.surface.specs.Demands.{Contents}
-use Rattle.answers.specs.declared.Length.{Length}
-use Rattle.answers.specs.Answers.{file_answer, note_told, length_answer}
+use Rattle.answers.specs.declared.Refusal.{Refusal}
+use Rattle.answers.specs.Answers.{file_answer, bench_answer, bench_note, value_answer}
 use Rattle.demands.specs.FilePromises.{WritePromise}
 use Rattle.tablefile.specs.Counts.{has_counts, with_counts, Tells}
 use Rattle.tablefile.specs.Notes.{Bare, up_to}
@@ -235,8 +236,8 @@ answer-passes file b note₁ note₂ fits₁ fits₂ tree_out numbers_out =
 -- ---- of the calls
 
 -- an answer that is known
-known : (W H : ℕ) (c : Contents) (note : Note) (out : List ℕ) (r : Length) (after : List ℕ) (n : ℕ)
-    → length_answer r ≡ gives n → WritePromise W H c note out r after
+known : (W H : ℕ) (c : Contents) (note : Note) (out : List ℕ) (r : Result ℕ Refusal) (after : List ℕ) (n : ℕ)
+    → value_answer r ≡ gives n → WritePromise W H c note out r after
     → SliceMeets (save_outcome W H c.tree c.numbers note out) (gives n) after
 known W H c note out r after n e p = (sym e ∙ p.0, p.1)
 
@@ -253,8 +254,8 @@ restores W H c note out r after p n e tree_out numbers_out room s tree numbers q
 bench-restores : BenchRestores
 bench-restores W H c note out r after p n e tree_out numbers_out room s tree numbers q =
     let k = known W H c note out r after n e p in
-    let a = file_answer s.file in
-    let part = note_told s.note in
+    let a = bench_answer s in
+    let part = bench_note s in
     let g = answer-restores W H c note out n after k tree_out numbers_out room a tree numbers
     (bench-reads (take n after) tree_out numbers_out a part tree numbers q) in
     let t = answer-noted W H c note out n after k g.0 tree_out numbers_out a part tree numbers q g.1 in
@@ -262,8 +263,8 @@ bench-restores W H c note out r after p n e tree_out numbers_out room s tree num
 
 loaded-note : LoadedNote
 loaded-note file tree_out numbers_out bytes s tree numbers p f e =
-    let a = file_answer s.file in
-    let part = note_told s.note in
+    let a = bench_answer s in
+    let part = bench_note s in
     let m = read file tree_out numbers_out a tree numbers f e
     (bench-reads file tree_out numbers_out a part tree numbers p) in
     let told = bench-tells file tree_out numbers_out a part tree numbers p f e in (
@@ -274,16 +275,16 @@ loaded-note file tree_out numbers_out bytes s tree numbers p f e =
 
 keeps : SavingKeeps
 keeps file tree_out numbers_out bytes s tree numbers p f e out room r after q =
-    let a = file_answer s.file in
-    let part = note_told s.note in
+    let a = bench_answer s in
+    let part = bench_note s in
     answer_keeps file tree_out numbers_out bytes f tree numbers
     (read file tree_out numbers_out a tree numbers f e (bench-reads file tree_out numbers_out a part tree numbers p)) part
-    (bench-tells file tree_out numbers_out a part tree numbers p f e) out room (length_answer r) after q
+    (bench-tells file tree_out numbers_out a part tree numbers p f e) out room (value_answer r) after q
 
 drops : SavingDrops
 drops file tree_out numbers_out bytes s tree numbers p f e out room r after q =
     answer-drops file tree_out numbers_out bytes f tree numbers
-    (read file tree_out numbers_out (file_answer s) tree numbers f e p) out room (length_answer r) after q
+    (read file tree_out numbers_out (file_answer s) tree numbers f e p) out room (value_answer r) after q
 
 files : FilesOfTable
 files W H c file tree_out numbers_out bytes s tree numbers p = (
@@ -318,7 +319,7 @@ round_trip =
     record {
       saves = λ W H c note out good fits. (
         longest-file note W H c.tree c.numbers good fits,
-        λ room r after p. saving-done W H c.tree c.numbers note out good fits room (length_answer r) after p,
+        λ room r after p. saving-done W H c.tree c.numbers note out good fits room (value_answer r) after p,
       );
       restores = restores;
       bench_restores = bench-restores;

@@ -2,7 +2,7 @@
 -- "Each acceptable table has one file; loading it restores the same tree and coefficients"; with "Counts in the file":
 -- "saving what was loaded reproduces the bytes only of files that had it"; and "A bench note": "Saving after the bench
 -- loader keeps it; after the controller's loader the note is gone." Proved in proofs/RoundTrip.antt.
-use Rattle.std.specs.Prelude.{◌≡◌, Bool, true, List, ◌++◌, ℕ, ◌+◌, ◌≤◌, ℤ, length, take}
+use Rattle.std.specs.Prelude.{◌≡◌, Bool, true, List, ◌++◌, ℕ, ◌+◌, ◌≤◌, ℤ, length, take, Result}
 use Rattle.surface.specs.Support.{active_count}
 use Rattle.surface.specs.Table.{levels, slots, Acceptable}
 use Rattle.surface.specs.Calls.{gives}
@@ -13,10 +13,10 @@ use Rattle.surface.specs.BenchLoading.{note_of}
 use Rattle.surface.specs.Demands.{Contents}
 use Rattle.tablefile.specs.Counts.{has_counts, with_counts, Tells}
 use Rattle.tablefile.specs.Notes.{Bare, up_to}
-use Rattle.answers.specs.declared.File.{File}
+use Rattle.answers.specs.declared.Refusal.{Refusal}
+use Rattle.answers.specs.declared.Loaded.{Loaded}
 use Rattle.answers.specs.declared.Bench.{Bench}
-use Rattle.answers.specs.declared.Length.{Length}
-use Rattle.answers.specs.Answers.{file_answer, note_told, length_answer}
+use Rattle.answers.specs.Answers.{file_answer, bench_answer, bench_note, value_answer}
 use Rattle.demands.specs.FilePromises.{ReadPromise, BenchPromise, WritePromise}
 
 -- The outputs of reading a file hold the table c on a sheet W by H: 16 and 17 do not apply.
@@ -64,46 +64,49 @@ Saves =
     → note_fits note ≡ true
     → (length (saved_file note W H c) ≤ 32443)
     × (length (saved_file note W H c) ≤ length out
-    → (r : Length) (after : List ℕ) → WritePromise W H c note out r after
-    → (length_answer r ≡ gives (length (saved_file note W H c)))
+    → (r : Result ℕ Refusal) (after : List ℕ) → WritePromise W H c note out r after
+    → (value_answer r ≡ gives (length (saved_file note W H c)))
     × (take (length (saved_file note W H c)) after ≡ saved_file note W H c))
 
 -- "loading it restores the same tree and coefficients", by the controller's loader
 abbrev pub LoadingRestores : Type 0
 LoadingRestores =
-    (W H : ℕ) (c : Contents) (note : Note) (out : List ℕ) (r : Length) (after : List ℕ)
-    → WritePromise W H c note out r after → (n : ℕ) → length_answer r ≡ gives n
+    (W H : ℕ) (c : Contents) (note : Note) (out : List ℕ) (r : Result ℕ Refusal) (after : List ℕ)
+    → WritePromise W H c note out r after → (n : ℕ) → value_answer r ≡ gives n
     → (tree_out : List ℕ) (numbers_out : List ℤ) → HoldTable W H c tree_out numbers_out
-    → (s : File) (tree : List ℕ) (numbers : List ℤ) → ReadPromise (take n after) tree_out numbers_out s tree numbers
+    → (s : Result Loaded Refusal) (tree : List ℕ) (numbers : List ℤ)
+    → ReadPromise (take n after) tree_out numbers_out s tree numbers
     → (f : FileResult) × (file_answer s ≡ gives f) × Restored W H c f tree numbers
 
 -- and by the bench loader, which also tells of the note that was saved: it says none where none was
 abbrev pub BenchRestores : Type 0
 BenchRestores =
-    (W H : ℕ) (c : Contents) (note : Note) (out : List ℕ) (r : Length) (after : List ℕ)
-    → WritePromise W H c note out r after → (n : ℕ) → length_answer r ≡ gives n
+    (W H : ℕ) (c : Contents) (note : Note) (out : List ℕ) (r : Result ℕ Refusal) (after : List ℕ)
+    → WritePromise W H c note out r after → (n : ℕ) → value_answer r ≡ gives n
     → (tree_out : List ℕ) (numbers_out : List ℤ) → HoldTable W H c tree_out numbers_out
-    → (s : Bench) (tree : List ℕ) (numbers : List ℤ) → BenchPromise (take n after) tree_out numbers_out s tree numbers
-    → ((f : FileResult) × (file_answer s.file ≡ gives f) × Restored W H c f tree numbers)
-    × (note_told s.note ≡ part_of (take n after) note)
-    × (note_in (take n after) (note_told s.note) ≡ note)
+    → (s : Result Bench Refusal) (tree : List ℕ) (numbers : List ℤ)
+    → BenchPromise (take n after) tree_out numbers_out s tree numbers
+    → ((f : FileResult) × (bench_answer s ≡ gives f) × Restored W H c f tree numbers)
+    × (bench_note s ≡ part_of (take n after) note)
+    × (note_in (take n after) (bench_note s) ≡ note)
 
 -- Of each file that is loaded, the part that is told of lies in the file and is the file's note; none where it has
 -- none.
 abbrev pub LoadedNote : Type 0
 LoadedNote =
     (file tree_out : List ℕ) (numbers_out : List ℤ) → Bytes file
-    → (s : Bench) (tree : List ℕ) (numbers : List ℤ) → BenchPromise file tree_out numbers_out s tree numbers
-    → (f : FileResult) → file_answer s.file ≡ gives f
-    → (s.note.offset + s.note.length ≤ length file)
-    × (note_told s.note ≡ part_of file (file_note file))
-    × (note_in file (note_told s.note) ≡ file_note file)
+    → (s : Result Bench Refusal) (tree : List ℕ) (numbers : List ℤ)
+    → BenchPromise file tree_out numbers_out s tree numbers
+    → (f : FileResult) → bench_answer s ≡ gives f
+    → ((bench_note s).offset + (bench_note s).size ≤ length file)
+    × (bench_note s ≡ part_of file (file_note file))
+    × (note_in file (bench_note s) ≡ file_note file)
 
 -- ---- loading, then saving
 
 -- What is saved to an output that is long enough is this file.
-abbrev pub Rewrites : List ℕ → Length → List ℕ → Type 0
-Rewrites file r after = (length_answer r ≡ gives (length file)) × (take (length file) after ≡ file)
+abbrev pub Rewrites : List ℕ → Result ℕ Refusal → List ℕ → Type 0
+Rewrites file r after = (value_answer r ≡ gives (length file)) × (take (length file) after ≡ file)
 
 -- "Saving after the bench loader keeps it", with the note that it told of; "saving what was loaded reproduces the bytes
 -- only of files that had it": what is saved is the file that was loaded, with the counts added where it lacks them; the
@@ -111,11 +114,12 @@ Rewrites file r after = (length_answer r ≡ gives (length file)) × (take (leng
 abbrev pub SavingKeeps : Type 0
 SavingKeeps =
     (file tree_out : List ℕ) (numbers_out : List ℤ) → Bytes file
-    → (s : Bench) (tree : List ℕ) (numbers : List ℤ) → BenchPromise file tree_out numbers_out s tree numbers
-    → (f : FileResult) → file_answer s.file ≡ gives f
+    → (s : Result Bench Refusal) (tree : List ℕ) (numbers : List ℤ)
+    → BenchPromise file tree_out numbers_out s tree numbers
+    → (f : FileResult) → bench_answer s ≡ gives f
     → (out : List ℕ) → length (completed f tree file) ≤ length out
-    → (r : Length) (after : List ℕ)
-    → WritePromise f.W f.H (read_table f tree numbers) (note_in file (note_told s.note)) out r after
+    → (r : Result ℕ Refusal) (after : List ℕ)
+    → WritePromise f.W f.H (read_table f tree numbers) (note_in file (bench_note s)) out r after
     → Rewrites (completed f tree file) r after × (completed f tree file ≡ file → has_counts file ≡ true)
 
 -- "after the controller's loader the note is gone": what is saved for no note is the file that was loaded up to its
@@ -123,10 +127,11 @@ SavingKeeps =
 abbrev pub SavingDrops : Type 0
 SavingDrops =
     (file tree_out : List ℕ) (numbers_out : List ℤ) → Bytes file
-    → (s : File) (tree : List ℕ) (numbers : List ℤ) → ReadPromise file tree_out numbers_out s tree numbers
+    → (s : Result Loaded Refusal) (tree : List ℕ) (numbers : List ℤ)
+    → ReadPromise file tree_out numbers_out s tree numbers
     → (f : FileResult) → file_answer s ≡ gives f
     → (out : List ℕ) → length (completed f tree (noteless file)) ≤ length out
-    → (r : Length) (after : List ℕ) → WritePromise f.W f.H (read_table f tree numbers) none out r after
+    → (r : Result ℕ Refusal) (after : List ℕ) → WritePromise f.W f.H (read_table f tree numbers) none out r after
     → Rewrites (completed f tree (noteless file)) r after
     × (completed f tree (noteless file) ≡ file → (has_counts file ≡ true) × (file_note file ≡ none))
 
@@ -137,7 +142,8 @@ SavingDrops =
 abbrev pub FilesOfTable : Type 0
 FilesOfTable =
     (W H : ℕ) (c : Contents) (file tree_out : List ℕ) (numbers_out : List ℤ) → Bytes file
-    → (s : File) (tree : List ℕ) (numbers : List ℤ) → ReadPromise file tree_out numbers_out s tree numbers
+    → (s : Result Loaded Refusal) (tree : List ℕ) (numbers : List ℤ)
+    → ReadPromise file tree_out numbers_out s tree numbers
     → ((f : FileResult) → file_answer s ≡ gives f → Restored W H c f tree numbers
     → (counts : Bool) × (note : Note) × (note_fits note ≡ true)
     × (file ≡ file_with counts note W H c.tree c.numbers))
@@ -150,9 +156,9 @@ abbrev pub PassesOver : Type 0
 PassesOver =
     (file : List ℕ) → Bare file → (note₁ note₂ : Note) → note_fits note₁ ≡ true → note_fits note₂ ≡ true
     → (tree_out : List ℕ) (numbers_out : List ℤ)
-    → (s₁ : File) (tree₁ : List ℕ) (numbers₁ : List ℤ)
+    → (s₁ : Result Loaded Refusal) (tree₁ : List ℕ) (numbers₁ : List ℤ)
     → ReadPromise (file ++ note_bytes note₁) tree_out numbers_out s₁ tree₁ numbers₁
-    → (s₂ : File) (tree₂ : List ℕ) (numbers₂ : List ℤ)
+    → (s₂ : Result Loaded Refusal) (tree₂ : List ℕ) (numbers₂ : List ℤ)
     → ReadPromise (file ++ note_bytes note₂) tree_out numbers_out s₂ tree₂ numbers₂
     → (file_answer s₁ ≡ file_answer s₂) × (tree₁ ≡ tree₂) × (numbers₁ ≡ numbers₂)
 
@@ -162,14 +168,14 @@ PassesOver =
 -- the saved table's.
 abbrev pub SavedCountsTell : Type 0
 SavedCountsTell =
-    (W H : ℕ) (c : Contents) (note : Note) (out : List ℕ) (r : Length) (after : List ℕ)
-    → WritePromise W H c note out r after → (n : ℕ) → length_answer r ≡ gives n
+    (W H : ℕ) (c : Contents) (note : Note) (out : List ℕ) (r : Result ℕ Refusal) (after : List ℕ)
+    → WritePromise W H c note out r after → (n : ℕ) → value_answer r ≡ gives n
     → (has_counts (take n after) ≡ true) × Tells W H c.tree (take n after)
 
 -- Those in a file that is loaded are the loaded table's.
 abbrev pub LoadedCountsTell : Type 0
 LoadedCountsTell =
-    (file tree_out : List ℕ) (numbers_out : List ℤ) (s : File) (tree : List ℕ) (numbers : List ℤ)
+    (file tree_out : List ℕ) (numbers_out : List ℤ) (s : Result Loaded Refusal) (tree : List ℕ) (numbers : List ℤ)
     → ReadPromise file tree_out numbers_out s tree numbers
     → (f : FileResult) → file_answer s ≡ gives f → has_counts file ≡ true
     → Tells f.W f.H (take f.tree_length tree) file

@@ -1,8 +1,8 @@
 -- Masks set in words, and squares raised by them.
 use mathlib.Core.Bool.{Bool, true, false, true≢false, ◌&&◌, ◌||◌, cond, and-true, and-false, or-false}
 use mathlib.Core.List.{List}
-use mathlib.Core.Path.{◌≡◌, refl, sym, ap, ap₂, ◌∙◌}
-use Prim.Native.Nat.{ℕ, ◌+◌, ◌*◌, ◌/◌, ◌%◌, ◌^◌, ◌≤◌, ◌<◌, max}
+use mathlib.Core.Path.{◌≡◌, refl, sym, ap, ap₂, ◌∙◌, subst}
+use Prim.Native.Nat.{ℕ, ◌+◌, ◌-◌, ◌*◌, ◌/◌, ◌%◌, ◌^◌, ◌≤◌, ◌<◌, max}
 use native.Mathlib.Nat.{zero-add}
 use native.Mathlib.Decide.{dec_lt}
 use native.Mathlib.Omega.{arith}
@@ -11,10 +11,13 @@ use lib.Dec.{ltb}
 use lib.ListN.{length, get_or, set, length-set}
 use lib.Seq.{get_or-set_same, get_or-set_other}
 use borrow.Author.Tests.{lt-ltb, le-ltb}
+use borrow.Rule.Slice.PartMut.{mid_of, put_mid, same_len_mid}
+use Rattle.std.proofs.Common.{rules}
+use Rattle.std.proofs.lemmas.List.{places}
 use Rattle.finite.specs.Bits.{bit}
 use Rattle.finite.proofs.Bits.{bit-or}
 use Rattle.rows.specs.Rows.{above, in_span, Fit, Raised, Masked}
-use Rattle.rows.proofs.Spans.{in-span, before-span, past-span, span-true, row-test}
+use Rattle.rows.proofs.Spans.{in-span, before-span, past-span, span-true, span-apart, span-or, row-test}
 
 -- ---- masks
 
@@ -51,6 +54,34 @@ mask-join f g h mask a b c first second apart both =
         first.words p l ∙ ap (λ s. cond s (bit_or (get_or a p 0) mask) (get_or a p 0)) d in
         rw (both p, e) (ap (λ w. bit_or w mask) kept)
     go p l false t e d = rw (both p, e) (first.words p l)
+
+-- one word more of those that a mask is set in, in order
+pub mask-next : (i mask : ℕ) (a b : List ℕ) → i < length b → Masked (in_span 0 i) mask a b
+    → Masked (in_span 0 (i + 1)) mask a (set b i (bit_or (get_or b i 0) mask))
+mask-next i mask a b inside kept =
+    mask-join (in_span 0 i) (in_span i 1) (in_span 0 (i + 1)) mask a b _ kept (mask_one i mask b inside)
+    (λ p. subst (λ j. in_span j 1 p ≡ true → in_span 0 i p ≡ false) (zero-add i) (span-apart 0 i 1 p))
+    (λ p. subst (λ j. in_span 0 (i + 1) p ≡ (in_span j 1 p || in_span 0 i p)) (zero-add i) (span-or 0 i 1 p))
+
+-- a mask that is set in each word of a part: the words from a place on, when the part is put back
+pub mask-part : (from n k i mask : ℕ) (rows ys : List ℕ) → k ≡ n → from + n ≤ length rows
+    → length (mid_of from k rows) ≤ i → length ys ≡ length (mid_of from k rows)
+    → Masked (in_span 0 i) mask (mid_of from k rows) ys → Masked (in_span from n) mask rows (put_mid from k rows ys)
+mask-part from n k i mask rows ys e fits all same m =
+    record { size = same_len_mid from k rows ys same; words = λ p h. go p h (dec_lt p from) (dec_lt p (from + n)) }
+  where
+    go : (p : ℕ) → p < 96 → Dec (p < from) → Dec (p < from + n)
+        → get_or (put_mid from k rows ys) p 0
+        ≡ cond (in_span from n p) (bit_or (get_or rows p 0) mask) (get_or rows p 0)
+    go p h (yes l) d = rw (before-span from n p l) (search (rules, places))
+    go p h (no l) (yes u) =
+        let moved : get_or (put_mid from k rows ys) p 0 ≡ get_or ys (p - from) 0 = search (rules, places) in
+        let was : get_or (mid_of from k rows) (p - from) 0 ≡ get_or rows p 0 = search (rules, places) in
+        let long : length (mid_of from k rows) ≡ n = search (rules, places) in
+        rw (in-span from n p (omega arith) u)
+        (moved ∙ m.words (p - from) (omega arith)
+        ∙ ap₂ (λ s w. cond s (bit_or w mask) w) (in-span 0 i (p - from) (omega arith) (omega arith)) was)
+    go p h (no l) (no u) = rw (past-span from n p (omega arith)) (search (rules, places))
 
 pub mask-fit : (test : ℕ → Bool) (mask : ℕ) (a b : List ℕ) → mask < 2 ^ 32 → Masked test mask a b → Fit a → Fit b
 mask-fit test mask a b small m fit p l = rw (m.words p l) (go (test p))
@@ -135,21 +166,3 @@ mask-raised x y side level mask a b low size small span m =
         rw (le-ltb l level (omega arith), zero, and-true (in_span x side q))
         (nothing (bit (word l r) q) (in_span x side q))
     go l q r hq false d = rw (and-false (ltb l level), and-false (in_span x side q)) (omega arith)
-
--- ---- a single quarter square
-
-pub quarter-first : (y mask : ℕ) (a : List ℕ) → y < 32 → length a ≡ 96
-    → Masked (in_levels y 1 1) mask a (set a y (bit_or (get_or a y 0) mask))
-quarter-first y mask a inside size =
-    mask-level y 1 0 mask a a _ (omega arith) (mask-none (in_levels y 1 0) mask a (no-levels y 1))
-    (rw (zero-add y) (mask_one y mask a (omega arith)))
-
-pub quarter-next : (n y mask : ℕ) (a b : List ℕ) → n < 3 → y < 32 → length a ≡ 96 → Masked (in_levels y 1 n) mask a b
-    → Masked (in_levels y 1 (n + 1)) mask a (set b (n * 32 + y) (bit_or (get_or b (n * 32 + y) 0) mask))
-quarter-next n y mask a b few inside size m =
-    mask-level y 1 n mask a b _ (omega arith) m (mask_one (n * 32 + y) mask b (omega (arith, m.size)))
-
-module _ (x y level mask : ℕ) (a b : List ℕ) (n : ℕ) (e : level ≡ n) (few : n ≤ 3) (size : length a ≡ 96) where
-  pub quarter-raised : mask < 2 ^ 32 → ((q : ℕ) → q < 32 → bit mask q ≡ cond (in_span x 1 q) 1 0)
-      → Masked (in_levels y 1 n) mask a b → Raised x y 1 (λ _ _. level) a b
-  quarter-raised small span m = rw e (mask-raised x y 1 n mask a b few size small span m)

@@ -19,7 +19,7 @@ use Rattle.surface.specs.Support.{least_under, active_count}
 use Rattle.surface.specs.Table.{levels}
 use Rattle.surface.proofs.Least.{least_under-cong, active_count-cong}
 use Rattle.surface.proofs.SmallLevels.{levels-small}
-use Rattle.rows.specs.Rows.{in_rows, levels_of, Nested, above, rows_of, level_rows, in_span, Painted, Fit, Raised}
+use Rattle.rows.specs.Rows.{in_rows, levels_of, Nested, above, rows_of, level_rows, in_span, Painted, Fit}
 use Rattle.rows.proofs.Spans.{in-span, before-span, past-span, join-quarters}
 
 -- ---- a span of ones
@@ -179,20 +179,3 @@ painted-four x y h a b c d m₀ m₁ m₂ m₃ m₄ p₁ p₂ p₃ p₄ =
     choose true false l u v w z = refl
     choose false true l u v w z = refl
     choose false false l u v w z = refl
-
--- level 0 raises nothing
-pub painted-none : (x y side : ℕ) (rows : List ℕ) → length rows ≡ 96 → Painted x y side (λ _ _. 0) rows rows
-painted-none x y side rows size =
-    record {
-      size = size;
-      bits = λ l q r _ _ _. nothing (in_rows rows l q r) l (in_span x side q && in_span y side r);
-    }
-  where
-    nothing : (o l : ℕ) (s : Bool) → o ≡ max o (cond s (above l 0) 0)
-    nothing o l true = omega arith
-    nothing o l false = omega arith
-
-pub raised-none : (x y side level : ℕ) (rows : List ℕ) → level ≡ 0 → length rows ≡ 96
-    → Raised x y side (λ _ _. level) rows rows
-raised-none x y side level rows e size =
-    record { painted = rw e (painted-none x y side rows size); fit = λ f. f }

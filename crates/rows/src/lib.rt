@@ -32,14 +32,10 @@ pub fn none_in(rows: &[u32; 96], l: usize, x: usize, y: usize, side: usize) -> b
         × (result ≡ false → ¬ (NoneIn l x y side side rows.now)) }
 {
     let mask = span(x, side);
-    let mut i = 0;
-    while i < side {
-        if rows[l * 32 + y + i] & mask != 0 {
-            return false;
-        }
-        i += 1;
-    }
-    true
+    let first = l * 32 + y;
+    rows[first..first + side]
+        .iter()
+        .all(|word| *word & mask == 0)
 }
 
 // Sets the bits of a mask in n words from a place on.
@@ -47,10 +43,8 @@ pub fn set_bits(rows: &mut [u32; 96], from: usize, n: usize, mask: u32)
     requires { (from + n ≤ 96) × (length rows.old ≡ 96) }
     ensures { Masked (in_span from n) mask rows.old rows.new }
 {
-    let mut i = 0;
-    while i < n {
-        rows[from + i] = rows[from + i] | mask;
-        i += 1;
+    for word in &mut rows[from..from + n] {
+        *word |= mask;
     }
 }
 
@@ -60,29 +54,7 @@ pub fn raise_square(rows: &mut [u32; 96], x: usize, y: usize, side: usize, level
     ensures { Raised x y side (λ _ _. level) rows.old rows.new }
 {
     let mask = span(x, side);
-    let mut l = 0;
-    while l < level {
+    for l in 0..level {
         set_bits(rows, l * 32 + y, side, mask);
-        l += 1;
     }
-}
-
-// Raises a single quarter square: most leaves of a deep tree are such.
-pub fn raise_quarter(rows: &mut [u32; 96], x: usize, y: usize, level: usize)
-    requires { (x < 32) × (y < 32) × (level ≤ 3) × (length rows.old ≡ 96) }
-    ensures { Raised x y 1 (λ _ _. level) rows.old rows.new }
-{
-    if level < 1 {
-        return;
-    }
-    let mask = span(x, 1);
-    rows[y] = rows[y] | mask;
-    if level < 2 {
-        return;
-    }
-    rows[32 + y] = rows[32 + y] | mask;
-    if level < 3 {
-        return;
-    }
-    rows[64 + y] = rows[64 + y] | mask;
 }

@@ -113,5 +113,6 @@ module _ (W H : ℕ) (hW : W ≤ 8) (hH : H ≤ 8) (t rows : List ℕ) (cs : Lis
   unfolding save_outcome save_cause
   same_outcome note out z =
       let file = file_of note W H t cs in
-      ap (λ file. done (note_cause note or_else file_out_cause file out) (length file) (put file out) out) (same-file note)
+      ap (λ file. done (note_cause note or_else file_out_cause file out) (length file) (put file out) out)
+      (same-file note)
       ∙ ap (λ c. done (c or_else note_cause note or_else file_out_cause file out) (length file) (put file out) out) z

@@ -1,5 +1,7 @@
 -- The file of a table by its regions and coefficients, and what the steps that put it give.
-use Rattle.std.specs.Prelude.{◌≡◌, Bool, cond, List, [], ◌∷◌, ◌++◌, ℕ, ◌+◌, ◌*◌, ◌≤◌, ◌<◌, ℤ, pos, nat_abs, length, get_or}
+use Rattle.std.specs.Prelude.{◌≡◌, Bool, cond, Option, Some, None, List, [], ◌∷◌, ◌++◌, ℕ, ◌+◌, ◌*◌, ◌≤◌, ◌<◌, ℤ}
+use Rattle.std.specs.Prelude.{pos, nat_abs, length, get_or}
+use Rattle.std.specs.Borrow.{Bor}
 use Rattle.finite.specs.Range.{joined}
 use Rattle.surface.specs.Sheet.{functions}
 use Rattle.surface.specs.Support.{active_count}
@@ -7,7 +9,7 @@ use Rattle.surface.specs.Table.{◌or_else◌, slots, coefficients}
 use Rattle.surface.specs.Calls.{put, Done, done}
 use Rattle.surface.specs.Fields.{field_bytes, number_bytes}
 use Rattle.surface.specs.TableFile.{level_body, counts_body}
-use Rattle.surface.specs.Note.{Note, note_bytes}
+use Rattle.surface.specs.Note.{Note, none, noted, note_bytes}
 use Rattle.surface.specs.Saving.{note_cause, file_out_cause}
 use Rattle.rows.specs.Rows.{Nested}
 
@@ -62,6 +64,11 @@ file_under W H t lev coef =
     ++ field_bytes 2 t
     ++ field_bytes 3 (counts_body (active_count W H lev))
     ++ joined 4 (λ L. level_under W H lev coef L)
+
+-- "The writer takes a note or none": these bytes, or none.
+abbrev pub note_lent : Option (Bor (List ℕ)) → Note
+note_lent None = none
+note_lent (Some text) = noted text.now
 
 -- with a note or none, written if 14 and 18 do not apply
 abbrev pub saved_outcome : ℕ → ℕ → List ℕ → (ℕ → ℕ → ℕ) → (ℕ → ℕ → ℕ → ℤ) → Note → List ℕ → Done ℕ ℕ

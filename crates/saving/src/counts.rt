@@ -10,10 +10,8 @@ fn put_body(counts: [usize; 4], out: &mut [u8], at: usize) -> usize
     ensures { Put (counts_body (λ L. get_or counts L 0)) at out.old result out.new }
 {
     let mut to = at;
-    let mut level = 0;
-    while level < tablefile::LEVELS {
-        to = fields::put_two(counts[level], out, to);
-        level += 1;
+    for count in counts {
+        to = fields::put_two(count, out, to);
     }
     to
 }

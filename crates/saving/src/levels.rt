@@ -27,14 +27,11 @@ fn put_row(row: &[i64], marks: activity::Marks, e: usize, out: &mut [u8], at: us
         × ((a : ℕ) → a < length row.now → Spelt (get_or row.now a (pos 0))) }
     ensures { Put (marked_bytes (marked e marks) row.now) at out.old result out.new }
 {
-    let n = row.len();
     let mut m = marks;
     let mut to = at;
-    let mut a = 0;
-    while a < n {
-        to = put_if(m.even % 2, row[a], out, to);
+    for number in row {
+        to = put_if(m.even % 2, *number, out, to);
         m = activity::next(m, e);
-        a += 1;
     }
     to
 }
@@ -59,13 +56,11 @@ fn put_body(
     let n = coefficients::functions(w, level);
     let m = coefficients::functions(h, level);
     let mut to = at;
-    let mut b = 0;
-    while b < m {
+    for b in 0..m {
         let marks = activity::active_row(rows, w, h, level, b);
         let from = b * n;
         let end = from + n;
         to = put_row(&part[from..end], marks, e, out, to);
-        b += 1;
     }
     to
 }
@@ -120,21 +115,10 @@ pub fn put_levels(
         at out.old result out.new }
 {
     let mut to = at;
-    let mut level = 0;
-    while level < tablefile::LEVELS {
+    for (level, count) in counts.iter().enumerate() {
         let first = coefficients::start(w, h, level);
         let last = first + coefficients::places(w, h, level);
-        to = put_level(
-            &numbers[first..last],
-            rows,
-            w,
-            h,
-            level,
-            counts[level],
-            out,
-            to,
-        );
-        level += 1;
+        to = put_level(&numbers[first..last], rows, w, h, level, *count, out, to);
     }
     to
 }

@@ -10,13 +10,14 @@ ghost use Rattle.std.specs.Prelude.{◌≡◌, ℕ, ◌+◌, ◌≤◌, ◌<◌,
 ghost use Rattle.surface.specs.Table.{coefficients};
 ghost use Rattle.surface.specs.Calls.{SliceMeets};
 ghost use Rattle.surface.specs.Fields.{field_bytes};
-ghost use Rattle.surface.specs.Note.{lent_note};
 ghost use Rattle.demands.specs.FilePromises.{WritePromise};
-ghost use Rattle.answers.specs.Answers.{length_answer};
+ghost use Rattle.answers.specs.Answers.{value_answer};
 ghost use Rattle.rows.specs.Rows.{levels_of};
 ghost use Rattle.activity.specs.Counts.{Counted};
 ghost use Rattle.fields.specs.Put.{Put};
-ghost use Rattle.saving.specs.Saved.{Checked, length_by, file_under, saved_outcome};
+ghost use Rattle.saving.specs.Saved.{Checked, length_by, file_under, note_lent, saved_outcome};
+
+use answers::Refusal;
 
 // The length of a file up to a note, by that of its tree and the active functions of each level.
 fn file_length(tree: usize, counts: [usize; 4]) -> usize
@@ -68,46 +69,40 @@ fn write_checked(
     tree: &[u8],
     numbers: &[i64],
     rows: &[u32; 96],
-    noted: bool,
-    note: &[u8],
+    note: Option<&[u8]>,
     out: &mut [u8],
-) -> answers::Length
+) -> Result<usize, Refusal>
     requires { Checked w h tree.now numbers.now rows.now }
     ensures { SliceMeets (saved_outcome w h tree.now (levels_of rows.now)
-        (coefficients w h numbers.now) (lent_note noted note.now) out.old)
-        (length_answer result) out.new }
+        (coefficients w h numbers.now) (note_lent note.entry) out.old)
+        (value_answer result) out.new }
 {
-    if notes::is_long(noted, note) {
-        return answers::Length::Refused(14);
+    if notes::is_long(note) {
+        return Err(Refusal::FileFieldLength);
     }
     let counts = activity::count::active_counts(rows, w, h);
-    let length = file_length(tree.len(), counts) + notes::note_length(noted, note);
+    let length = file_length(tree.len(), counts) + notes::note_length(note);
     if out.len() < length {
-        return answers::Length::Refused(18);
+        return Err(Refusal::FileOutputShort);
     }
     let end = put_file(w, h, tree, numbers, rows, counts, out);
-    notes::put_note(noted, note, out, end);
-    answers::Length::Bytes(length)
+    notes::put_note(note, out, end);
+    Ok(length)
 }
 
-// Writes the file of a table, with a note where `noted`, to a buffer and returns its length, or refuses and writes
-// nothing.
+// Writes the file of a table, with a note or none, to a buffer and returns its length, or refuses and writes nothing.
 pub fn write_file(
     w: usize,
     h: usize,
     tree: &[u8],
     numbers: &[i64],
-    noted: bool,
-    note: &[u8],
+    note: Option<&[u8]>,
     out: &mut [u8],
-) -> answers::Length
+) -> Result<usize, Refusal>
     ensures { WritePromise w h (record { tree = tree.now; numbers = numbers.now })
-        (lent_note noted note.now) out.old result out.new }
+        (note_lent note.entry) out.old result out.new }
 {
     let mut rows = [0u32; 96];
-    let cause = table::cause::check(w, h, tree, numbers, &mut rows);
-    if cause != 0 {
-        return answers::Length::Refused(cause);
-    }
-    write_checked(w, h, tree, numbers, &rows, noted, note, out)
+    table::cause::check(w, h, tree, numbers, &mut rows)?;
+    write_checked(w, h, tree, numbers, &rows, note, out)
 }

@@ -10,6 +10,8 @@ ghost use Rattle.rows.specs.Rows.{levels_of, Nested};
 ghost use Rattle.boxes.specs.Boxes.{box_of, InSheet};
 ghost use Rattle.answers.specs.Answers.{slip_told};
 
+use answers::Slip;
+
 // The slip of a box and a level, from the new regions and their tree: that of each table whose new tree it is.
 pub fn slip_of(
     w: usize,
@@ -18,7 +20,7 @@ pub fn slip_of(
     tree: &[u8],
     b: boxes::Box,
     level: usize,
-) -> answers::Slip
+) -> Slip
     requires { (w ≤ 8) × (h ≤ 8) × Nested new.now × (formed w h (tree_of tree.now) ≡ true)
         × ((q r : ℕ) → q < quarters w → r < quarters h → levels_of new.now q r ≡ levels tree.now q r)
         × InSheet w h (box_of b) }
@@ -27,7 +29,7 @@ pub fn slip_of(
 {
     let counts = activity::count::active_counts(new, w, h);
     let under = leastlevel::under(tree, w, h, b);
-    answers::Slip {
+    Slip {
         u0: b.u0,
         v0: b.v0,
         u1: b.u1,
@@ -43,41 +45,8 @@ pub fn slip_of(
 }
 
 // Whether two slips are the same, number by number.
-pub fn same(a: answers::Slip, b: answers::Slip) -> bool
+pub fn same(a: Slip, b: Slip) -> bool
     ensures { result ≡ same_slip (slip_told a) (slip_told b) }
 {
-    if a.u0 != b.u0 {
-        return false;
-    }
-    if a.v0 != b.v0 {
-        return false;
-    }
-    if a.u1 != b.u1 {
-        return false;
-    }
-    if a.v1 != b.v1 {
-        return false;
-    }
-    if a.level != b.level {
-        return false;
-    }
-    if a.length != b.length {
-        return false;
-    }
-    if a.active0 != b.active0 {
-        return false;
-    }
-    if a.active1 != b.active1 {
-        return false;
-    }
-    if a.active2 != b.active2 {
-        return false;
-    }
-    if a.active3 != b.active3 {
-        return false;
-    }
-    if a.visited != b.visited {
-        return false;
-    }
-    true
+    a == b
 }

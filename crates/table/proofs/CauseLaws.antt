@@ -16,21 +16,23 @@ use Rattle.surface.specs.Calls.{box_cause}
 use Rattle.surface.proofs.TableLaws.{regions-good}
 use Rattle.surface.proofs.Causes.{first, cause-none}
 use Rattle.boxes.specs.Boxes.{InSheet}
+use Rattle.answers.specs.declared.Refusal.{Refusal}
+use Rattle.answers.specs.Refusals.{number}
+use Rattle.answers.proofs.AnswerLaws.{number-positive}
 use Rattle.rows.specs.Rows.{levels_of, level_rows}
 use Rattle.rows.proofs.RowLaws.{rows-least}
 use Rattle.faults.specs.Faults.{Test, limits, zeros, holds_at, holds_on}
 
 -- ---- causes 1 and 2
 
--- by the tests of the sides and of the tree
-abbrev pub region : Bool → Bool → Bool → ℕ
-region u v f = cause 1 (not (u && v)) or_else cause 2 (not f)
+-- by the test of the sides and that of the tree
+abbrev pub region : Bool → Bool → ℕ
+region s f = cause 1 (not s) or_else cause 2 (not f)
 
-pub region-by : (W H : ℕ) (t : List ℕ) (u v f : Bool) → u ≡ good_side W → v ≡ good_side H → f ≡ formed W H (tree_of t)
-    → region u v f ≡ region_cause W H t
+pub region-by : (W H : ℕ) (t : List ℕ) (s f : Bool) → s ≡ (good_side W && good_side H) → f ≡ formed W H (tree_of t)
+    → region s f ≡ region_cause W H t
 unfolding region_cause
-region-by W H t u v f p q r =
-    ap (λ u. region u v f) p ∙ ap (λ v. region (good_side W) v f) q ∙ ap (region (good_side W) (good_side H)) r
+region-by W H t s f p q = ap (λ s. region s f) p ∙ ap (region (good_side W && good_side H)) q
 
 -- no cause 1 or 2
 pub region-none : (W H : ℕ) (t : List ℕ) → 0 ≡ region_cause W H t
@@ -55,9 +57,10 @@ module _ (W H : ℕ) (t : List ℕ) (cs : List ℤ) where
       ∙ ap
       (table (region_cause W H t) (eqb (length cs) (slots W H)) (within_limits W H (levels t) (coefficients W H cs))) s
 
-  pub table-region : (r : ℕ) → r ≡ region_cause W H t → (r ≡ 0 → ⊥) → r ≡ table_cause W H t cs
+  pub table-region : (e : Refusal) → number e ≡ region_cause W H t
+      → (number e ≡ table_cause W H t cs) × ¬ (number e ≡ 0)
   unfolding table_cause
-  table-region r e h = first e h _
+  table-region e q = (first q (number-positive e) _, number-positive e)
 
 -- ---- the rows in place of the tree
 

@@ -10,6 +10,8 @@ ghost use Rattle.demands.specs.GridPromises.{WriteGridPromise};
 ghost use Rattle.fields.specs.Put.{Put};
 ghost use Rattle.togrid.specs.Strips.{Checked, numbers_bytes, grid_by};
 
+use answers::Refusal;
+
 // "tags 1 and 19 only": that of the numbers.
 const GRID_TAG: u8 = 19;
 
@@ -29,10 +31,8 @@ fn put_body(
 {
     let last = h - 1;
     let mut to = at;
-    let mut y = 0;
-    while y < last {
+    for y in 0..last {
         to = strip::put_strip(numbers, rows, w, h, y, 8, out, to);
-        y += 1;
     }
     strip::put_strip(numbers, rows, w, h, last, 11, out, to)
 }
@@ -63,20 +63,17 @@ pub fn write_grid(
     tree: &[u8],
     numbers: &[i64],
     grid_out: &mut [u8],
-) -> answers::Length
+) -> Result<usize, Refusal>
     ensures { WriteGridPromise w h (record { tree = tree.now; numbers = numbers.now })
         grid_out.old result grid_out.new }
 {
     let mut rows = [0u32; 96];
-    let cause = table::cause::check(w, h, tree, numbers, &mut rows);
-    if cause != 0 {
-        return answers::Length::Refused(cause);
-    }
+    table::cause::check(w, h, tree, numbers, &mut rows)?;
     let size = fields::number::SIZE * coefficients::places(w, h, 3);
     let length = 2 * fields::HEAD + tablefile::SIDES + size;
     if grid_out.len() < length {
-        return answers::Length::Refused(18);
+        return Err(Refusal::FileOutputShort);
     }
     put_grid(numbers, &rows, w, h, size, grid_out);
-    answers::Length::Bytes(length)
+    Ok(length)
 }

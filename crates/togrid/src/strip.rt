@@ -11,12 +11,9 @@ fn put_numbers(row: &[i64], out: &mut [u8], at: usize) -> usize
         × ((a : ℕ) → a < length row.now → nat_abs (get_or row.now a (pos 0)) < 549755813888) }
     ensures { Put (numbers_bytes row.now) at out.old result out.new }
 {
-    let n = row.len();
     let mut to = at;
-    let mut a = 0;
-    while a < n {
-        to = fields::number::put(row[a], out, to);
-        a += 1;
+    for number in row {
+        to = fields::number::put(*number, out, to);
     }
     to
 }
@@ -77,8 +74,7 @@ fn fill_window(
 {
     let n = coefficients::functions(w, level + 1);
     let mut from = 0;
-    let mut i = 0;
-    while i < count {
+    for i in 0..count {
         let to = from + n;
         carried_row(
             &mut out[from..to],
@@ -92,7 +88,6 @@ fn fill_window(
             first,
         );
         from = to;
-        i += 1;
     }
 }
 
@@ -117,8 +112,7 @@ fn put_rows(
     let n = coefficients::functions(w, 3);
     let mut row = [0; 67];
     let mut to = at;
-    let mut i = 0;
-    while i < count {
+    for i in 0..count {
         carried_row(
             &mut row[..n],
             coarse,
@@ -131,7 +125,6 @@ fn put_rows(
             first,
         );
         to = put_numbers(&row[..n], out, to);
-        i += 1;
     }
     to
 }

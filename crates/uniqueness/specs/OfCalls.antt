@@ -1,11 +1,11 @@
 -- What agreement of figures means, of the calls `exact`, `enquire` and `commit` and of the linked ones, from their
 -- promises alone. Proved in proofs/OfCalls.antt.
-use Rattle.std.specs.Prelude.{◌≡◌, true, List, ℕ, ◌%◌, ℤ}
+use Rattle.std.specs.Prelude.{◌≡◌, true, List, ℕ, ◌%◌, ℤ, Result}
 use Rattle.surface.specs.Sheet.{on_sheet}
 use Rattle.surface.specs.Calls.{gives}
 use Rattle.surface.specs.Demands.{Contents, SameRegions}
-use Rattle.answers.specs.declared.Exact.{Exact}
-use Rattle.answers.specs.Answers.{exact_answer, length_answer}
+use Rattle.answers.specs.declared.Refusal.{Refusal}
+use Rattle.answers.specs.Answers.{value_answer}
 use Rattle.demands.specs.Promises.{ExactPromise, CommitPromise}
 use Rattle.demands.specs.LinkedPromises.{KilnExactPromise, KilnCommitPromise}
 use Rattle.demands.specs.DemandThree.{Kept, standing, MadeAsPromised, left_by, CommitMade, commit}
@@ -13,11 +13,11 @@ use Rattle.demands.specs.LinkedDemandThree.{LinkedAsPromised, left_by_linked, Li
 
 -- Two answers of `exact` at a point, of the tables c and d, that give the same reading.
 pub record SameAnswer (W H : ℕ) (c d : Contents) (u v : ℕ) : Type 0 where
-  pub first : Exact
-  pub second : Exact
+  pub first : Result ℤ Refusal
+  pub second : Result ℤ Refusal
   pub kept : ExactPromise W H c u v first × ExactPromise W H d u v second
   pub reading : ℤ
-  pub given : (exact_answer first ≡ gives reading) × (exact_answer second ≡ gives reading)
+  pub given : (value_answer first ≡ gives reading) × (value_answer second ≡ gives reading)
 
 -- The same of `kiln_exact`: both codes are 0, and the numerators are the same.
 pub record SameNumerator (W H : ℕ) (c d : Contents) (u v : ℕ) : Type 0 where
@@ -72,7 +72,7 @@ pub record SurfacesOfCalls : Type 0 where
   pub regions : SameTableBy SameAnswer MadeAsPromised left_by
   -- after an accepted commit m another one of the same box and level changes nothing
   pub again : (W H : ℕ) (c : Contents) (m later : CommitMade) (n : ℕ)
-      → CommitPromise W H c m.lent m.answer m.tree m.numbers → length_answer m.answer ≡ gives n
+      → CommitPromise W H c m.lent m.answer m.tree m.numbers → value_answer m.answer ≡ gives n
       → CommitPromise W H (left_by c (commit m)) later.lent later.answer later.tree later.numbers
       → later.lent.slip.box ≡ m.lent.slip.box → later.lent.slip.level ≡ m.lent.slip.level
       → left_by (left_by c (commit m)) (commit later) ≡ left_by c (commit m)

@@ -1,13 +1,12 @@
 -- Laws of the figures of a list of records, which are folded over it in two parts or one by one.
 use mathlib.Core.Path.{◌≡◌, refl, sym, ap, subst, ◌∙◌}
-use mathlib.Core.Bool.{Bool, true, false, cond}
 use mathlib.Core.List.{List, [], ◌∷◌, ◌++◌}
 use Prim.Native.Nat.{ℕ, suc, ◌+◌, ◌^◌, ◌≤◌, ◌<◌}
 use native.Mathlib.Omega.{arith}
 use borrow.Author.Rules.{sfits_of}
 use lib.Dec.{lit<}
 use lib.IntN.{ℤ, pos, nat_abs, ◌+ℤ◌}
-use lib.Signed.{mag, lt_z}
+use lib.Signed.{mag}
 use lib.ListN.{length, get_or, drop}
 use lib.Seq.{drop-cons, drop-length}
 use mir.Syntax.{w32, w64}
@@ -16,22 +15,6 @@ use mir.ValLaws.{to_z-of_z}
 use Rattle.finite.proofs.Order.{abs-add}
 use Rattle.finite.proofs.Signed.{abs-fits, fits-abs}
 use Rattle.surface.specs.Window.{folded}
-
--- ---- the lesser and the greater of two numbers, by a test of a and b as the machine reads them
-
-chosen : (x y : ℤ) {z a b : ℤ} (t : Bool) → SFits w32 a → SFits w32 b → SFits w32 z → z ≡ cond t y x
-    → lt_z (to_z w32 (of_z w32 a)) (to_z w32 (of_z w32 b)) ≡ t → to_z w32 (of_z w32 z) ≡ cond (lt_z a b) y x
-chosen x y {z} {a} {b} t f g h e p =
-    let read : lt_z (to_z w32 (of_z w32 a)) (to_z w32 (of_z w32 b)) ≡ lt_z a b = rw (to_z-of_z w32 a f, to_z-of_z w32 b g) in
-    to_z-of_z w32 z h ∙ e ∙ ap (λ t. cond t y x) (sym (sym read ∙ p))
-
-pub second-chosen : (x y : ℤ) {a b : ℤ} → SFits w32 a → SFits w32 b → SFits w32 y
-    → lt_z (to_z w32 (of_z w32 a)) (to_z w32 (of_z w32 b)) ≡ true → to_z w32 (of_z w32 y) ≡ cond (lt_z a b) y x
-second-chosen x y f g h p = chosen x y true f g h refl p
-
-pub first-chosen : (x y : ℤ) {a b : ℤ} → SFits w32 a → SFits w32 b → SFits w32 x
-    → lt_z (to_z w32 (of_z w32 a)) (to_z w32 (of_z w32 b)) ≡ false → to_z w32 (of_z w32 x) ≡ cond (lt_z a b) y x
-first-chosen x y f g h p = chosen x y false f g h refl p
 
 -- ---- a record added to a total
 

@@ -58,22 +58,21 @@ module _ (w : List ℤ) (o h : ℕ) (z : Sound (length w) (record { held = h; ol
           (p ∙ total-from part) (q ∙ read-from lesser part) (r ∙ read-from greater part)
 
       -- in two
-      module _ {t₀ l₀ g₀ : ℤ} (ft : mag t₀ < 2 ^ 63) (fl : mag l₀ < 2 ^ 31) (fg : mag g₀ < 2 ^ 31) where
+      module _ {t₀ l₀ g₀ : ℤ} where
         pub told-wrapped : length w < o + h
             → let later = take (length w - (o + 1)) (drop (o + 1) w) in
             let early = take (o + h - length w - 0) w in
             t₀ ≡ folded ◌+ℤ◌ (widened x) later → l₀ ≡ folded lesser read later → g₀ ≡ folded greater read later
-            → t ≡ folded ◌+ℤ◌ (to_z w64 (of_z w64 t₀)) early → l ≡ folded lesser (to_z w32 (of_z w32 l₀)) early
-            → g ≡ folded greater (to_z w32 (of_z w32 g₀)) early
+            → t ≡ folded ◌+ℤ◌ t₀ early → l ≡ folded lesser l₀ early → g ≡ folded greater g₀ early
             → figures_of (records_held w (record { held = h; oldest = o }))
             ≡ record { total = t; least = present l; greatest = present g }
         told-wrapped b p₀ q₀ r₀ p q r =
             figures-are x (later ++ early)
             (held-wrapped w (record { held = h; oldest = o }) z b
             ∙ ap₂ ◌++◌ (first ∙ ap (λ xs. x ∷ xs) (sym whole)) rest)
-            (p ∙ joined ◌+ℤ◌ (to_z-of_z w64 t₀ (sfits_of ft) ∙ p₀ ∙ total-from later))
-            (q ∙ joined lesser (to_z-of_z w32 l₀ (sfits_of fl) ∙ q₀ ∙ read-from lesser later))
-            (r ∙ joined greater (to_z-of_z w32 g₀ (sfits_of fg) ∙ r₀ ∙ read-from greater later))
+            (p ∙ joined ◌+ℤ◌ (p₀ ∙ total-from later))
+            (q ∙ joined lesser (q₀ ∙ read-from lesser later))
+            (r ∙ joined greater (r₀ ∙ read-from greater later))
           where
             later : List ℤ
             later = take (length w - (o + 1)) (drop (o + 1) w)

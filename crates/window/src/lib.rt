@@ -7,36 +7,40 @@ ghost use Rattle.surface.specs.Window.{window_cause, record_cause, place_after, 
 ghost use Rattle.surface.specs.Window.{folded, present};
 ghost use Rattle.surface.specs.Window as Window;
 ghost use Rattle.answers.specs.Answers.{state_told};
+ghost use Rattle.answers.specs.Refusals.{cause_of};
 ghost use Rattle.demands.specs.WindowPromises.{RecordPromise, FiguresPromise};
 
-// 22 for a window of so many places in this state, or 0.
-fn window_cause(places: usize, state: answers::WindowState) -> u8
-    ensures { result ≡ window_cause places (state_told state) }
+use answers::{Extremes, Figures, Refusal, WindowState};
+
+// 22 for a window of so many places in this state.
+fn window_cause(places: usize, state: WindowState) -> Result<(), Refusal>
+    ensures { cause_of result ≡ window_cause places (state_told state) }
 {
     if places < 1 {
-        return 22;
+        return Err(Refusal::Window);
     }
     if 1440 < places {
-        return 22;
+        return Err(Refusal::Window);
     }
     if places < state.held {
-        return 22;
+        return Err(Refusal::Window);
     }
-    if state.oldest < places { 0 } else { 22 }
+    if state.oldest < places {
+        Ok(())
+    } else {
+        Err(Refusal::Window)
+    }
 }
 
-// 22, then 23, of a new record, or 0.
-fn record_cause(places: usize, state: answers::WindowState, watts: i64) -> u8
-    ensures { result ≡ record_cause places (state_told state) watts }
+// 22, then 23, of a new record.
+fn record_cause(places: usize, state: WindowState, watts: i64) -> Result<(), Refusal>
+    ensures { cause_of result ≡ record_cause places (state_told state) watts }
 {
-    let cause = window_cause(places, state);
-    if cause != 0 {
-        return cause;
-    }
+    window_cause(places, state)?;
     if coefficients::past(watts, 32000) {
-        return 23;
+        return Err(Refusal::Record);
     }
-    0
+    Ok(())
 }
 
 // The place that is k places after p: place 0 follows the last place.
@@ -52,50 +56,51 @@ fn place_after(places: usize, p: usize, k: usize) -> usize
 }
 
 // The state after one more record.
-fn new_state(places: usize, state: answers::WindowState) -> answers::WindowState
+fn new_state(places: usize, state: WindowState) -> WindowState
     requires { window_cause places (state_told state) ≡ 0 }
     ensures { state_told result ≡ new_state places (state_told state) }
 {
     let held = state.held;
     let oldest = state.oldest;
     if held < places {
-        return answers::WindowState {
+        return WindowState {
             held: held + 1,
             oldest,
         };
     }
-    answers::WindowState {
+    WindowState {
         held,
         oldest: place_after(places, oldest, 1),
     }
 }
 
 // Adds a record to a window: it takes the place after the newest held, or the oldest's when the window is full.
-pub fn add_record(window: &mut [i32], state: answers::WindowState, watts: i64) -> answers::Recorded
+pub fn add_record(
+    window: &mut [i32],
+    state: WindowState,
+    watts: i64,
+) -> Result<WindowState, Refusal>
     ensures { RecordPromise window.old (state_told state) watts result window.new }
 {
     let places = window.len();
-    let cause = record_cause(places, state, watts);
-    if cause != 0 {
-        return answers::Recorded::Refused(cause);
-    }
+    record_cause(places, state, watts)?;
     let at = place_after(places, state.oldest, state.held);
     window[at] = watts as i32;
-    answers::Recorded::State(new_state(places, state))
+    Ok(new_state(places, state))
 }
 
 // The lesser of two numbers.
 fn lesser(x: i32, y: i32) -> i32
     ensures { result ≡ Window.lesser x y }
 {
-    if y < x { y } else { x }
+    x.min(y)
 }
 
 // The greater of two numbers.
 fn greater(x: i32, y: i32) -> i32
     ensures { result ≡ Window.greater x y }
 {
-    if x < y { y } else { x }
+    x.max(y)
 }
 
 // The total, least and greatest of some records.
@@ -106,25 +111,21 @@ struct Sums {
     greatest: i32,
 }
 
-// Those of the records that these numbers are of, and of the records of a part of the window, taken together.
-fn over(part: &[i32], total0: i64, least0: i32, greatest0: i32) -> Sums
-    requires { (length part.now ≤ 1440) × (nat_abs total0 ≤ 1441 * 2147483648) }
-    ensures { (result.total ≡ folded ◌+ℤ◌ total0 part.now)
-        × (result.least ≡ folded Window.lesser least0 part.now)
-        × (result.greatest ≡ folded Window.greater greatest0 part.now)
-        × (nat_abs result.total ≤ nat_abs total0 + length part.now * 2147483648) }
+// Those that were found before, and those of a part of the window, taken together.
+fn over(part: &[i32], before: Sums) -> Sums
+    requires { (length part.now ≤ 1440) × (nat_abs before.total ≤ 1441 * 2147483648) }
+    ensures { (result.total ≡ folded ◌+ℤ◌ before.total part.now)
+        × (result.least ≡ folded Window.lesser before.least part.now)
+        × (result.greatest ≡ folded Window.greater before.greatest part.now)
+        × (nat_abs result.total ≤ nat_abs before.total + length part.now * 2147483648) }
 {
-    let n = part.len();
-    let mut total = total0;
-    let mut least = least0;
-    let mut greatest = greatest0;
-    let mut i = 0;
-    while i < n {
-        let x = part[i];
-        total += x as i64;
-        least = lesser(least, x);
-        greatest = greater(greatest, x);
-        i += 1;
+    let mut total = before.total;
+    let mut least = before.least;
+    let mut greatest = before.greatest;
+    for x in part {
+        total += *x as i64;
+        least = lesser(least, *x);
+        greatest = greater(greatest, *x);
     }
     Sums {
         total,
@@ -140,40 +141,41 @@ fn of_held(window: &[i32], held: usize, oldest: usize) -> Sums
     ensures { figures_of (records_held window.now (record { held = held; oldest = oldest }))
         ≡ record { total = result.total; least = present result.least; greatest = present result.greatest } }
 {
-    let first = window[oldest];
-    let total = first as i64;
+    let record = window[oldest];
+    let first = Sums {
+        total: record as i64,
+        least: record,
+        greatest: record,
+    };
     let second = oldest + 1;
     let end = oldest + held;
     let places = window.len();
     if end <= places {
-        return over(&window[second..end], total, first, first);
+        return over(&window[second..end], first);
     }
     let wrapped = end - places;
-    let later = over(&window[second..], total, first, first);
-    over(
-        &window[0..wrapped],
-        later.total,
-        later.least,
-        later.greatest,
-    )
+    let later = over(&window[second..], first);
+    over(&window[0..wrapped], later)
 }
 
 // The total, least and greatest of the records held; with none held the last two are missing.
-pub fn figures(window: &[i32], state: answers::WindowState) -> answers::Figures
+pub fn figures(window: &[i32], state: WindowState) -> Result<Figures, Refusal>
     ensures { FiguresPromise window.now (state_told state) result }
 {
-    let cause = window_cause(window.len(), state);
-    if cause != 0 {
-        return answers::Figures::Refused(cause);
+    window_cause(window.len(), state)?;
+    if state.held == 0 {
+        return Ok(Figures {
+            total: 0,
+            extremes: None,
+        });
     }
-    let held = state.held;
-    if held == 0 {
-        return answers::Figures::Missing;
-    }
-    let f = of_held(window, held, state.oldest);
-    answers::Figures::Held {
-        total: f.total,
+    let f = of_held(window, state.held, state.oldest);
+    let extremes = Extremes {
         least: f.least,
         greatest: f.greatest,
-    }
+    };
+    Ok(Figures {
+        total: f.total,
+        extremes: Some(extremes),
+    })
 }

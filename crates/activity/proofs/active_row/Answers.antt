@@ -1,6 +1,7 @@
 -- `active_row` meets its contract.
 use mathlib.Core.Path.{sym, subst}
 use Prim.Native.Nat.{◌≤◌}
+use native.Mathlib.Omega.{arith}
 use Rattle.rows.specs.Rows.{levels_of}
 use Rattle.activity.specs.Marks.{ActiveRow}
 use Rattle.activity.proofs.WindowLaws.{window-asks, window-ends}
@@ -16,16 +17,16 @@ ends : (c : After-window_of-window)
 ends c =
     window-ends c.args.h c.args.level c.args.b c.requires.1 c.requires.2 c.requires.3 c.window_of-window.ensures
 
-pub inside-own-requires : goal.inside-own-requires
-inside-own-requires c = let p = c.requires in (p.0, p.2, (ends c).0, (ends c).1, p.4)
+pub in_region-own-requires : goal.in_region-own-requires
+in_region-own-requires c = let p = c.requires in (p.0, p.2, (ends c).0, (ends c).1, omega arith, p.4)
 
-pub beyond-finer-requires : goal.beyond-finer-requires
-beyond-finer-requires c = let p = c.requires in
-    (p.0, p.2, (ends (goal.at.beyond-finer-requires c).After-window_of-window).0, (ends (goal.at.beyond-finer-requires c).After-window_of-window).1, p.4)
+pub in_region-finer-requires : goal.in_region-finer-requires
+in_region-finer-requires c = let p = c.requires in
+    (p.0, p.2, (ends (goal.at.in_region-finer-requires c).After-window_of-window).0, (ends (goal.at.in_region-finer-requires c).After-window_of-window).1, omega arith, p.4)
 
 pub returns : goal.returns
-returns c = let finer = c.beyond-finer in
-    let own = c.inside-own in
+returns c = let finer = c.in_region-finer in
+    let own = c.in_region-own in
     let a = c.args in
     let over = c.window_of-window.ensures in
     subst (ActiveRow a.w a.h a.level a.b (levels_of a.rows.now)) (sym c.place.ensures)

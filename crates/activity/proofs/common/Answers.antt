@@ -1,28 +1,28 @@
--- `common` meets its contract: before each turn the words below i are taken together.
+-- `common` meets its contract: before each turn the words before the index are taken together.
 use mathlib.Core.Path.{◌≡◌}
-use Prim.Native.Nat.{◌-◌}
+use Prim.Native.Nat.{◌+◌, ◌-◌}
 use native.Mathlib.Omega.{arith}
+use lib.ListN.{length, take, drop, length-take, length-drop}
 use Rattle.finite.proofs.Bits.{bit-ones}
 use Rattle.finite.specs.Range.{least}
 use Rattle.activity.proofs.BitLaws.{common-more}
+use Rattle.activity.proofs.common.Goals.{Start}
 use Rattle.activity.proofs.common.Goals as goal
 
-pub loop-i-init : goal.loop-i-init
+-- the words from .. to are as many
+size : (c : Start) → let a = c.args in
+    length (take (a.to - a.from) (drop a.from a.rows.now)) ≡ a.to - a.from
+size c = let a = c.args in
+    omega (arith, length-take (a.to - a.from) (drop a.from a.rows.now), length-drop a.from a.rows.now)
+
+pub loop-row-init : goal.loop-row-init
 unfolding least
-loop-i-init c = let from = c.args.from in
-    let none : from - from ≡ 0 = omega arith in
-    (omega arith, omega arith, λ q l. rw none (bit-ones 32 q l))
+loop-row-init c = let from = c.args.from in
+    let none : from + 0 - from ≡ 0 = omega arith in
+    λ q l. rw none (bit-ones 32 q l)
 
-pub loop-i-preserved : goal.loop-i-preserved
-loop-i-preserved c = let args = c.args in
-    let inv = c.loop-i.invariant in (
-      omega arith,
-      omega arith,
-      common-more args.rows.now args.from c.loop-i.i c.loop-i.word inv.0 inv.2,
-    )
-
-pub returns : goal.returns
-returns c = let loop = c.loop-i in
-    let args = c.args in
-    let all : loop.i ≡ args.to = omega arith in
-    rw (← all) loop.invariant.2
+pub loop-row-preserved : goal.loop-row-preserved
+loop-row-preserved c = let a = c.args in
+    let loop = c.loop-row in
+    common-more a.rows.now a.from a.to loop.row-index loop.word (omega (arith, size (goal.at.loop-row-preserved c).Start))
+    loop.invariant

@@ -1,17 +1,12 @@
 -- `place` shifts both words to the places of functions 0 and 1.
-use mathlib.Core.Path.{ap}
 use Prim.Native.Nat.{◌≤◌}
 use native.Mathlib.Omega.{arith}
-use Rattle.activity.specs.Marks.{placed}
 use Rattle.activity.proofs.WindowLaws.{eighths-le}
 use Rattle.activity.proofs.place.Goals.{After-eighths-e}
 use Rattle.activity.proofs.place.Goals as goal
 
 side : (c : After-eighths-e) → c.eighths-e.result ≤ 8
 side c = omega (arith, c.eighths-e.ensures, eighths-le c.args.level)
-
-pub returns : goal.returns
-returns c = ap (λ e. placed e c.args.m) c.eighths-e.ensures
 
 pub overflow_mul-result : goal.overflow_mul-result
 overflow_mul-result c =

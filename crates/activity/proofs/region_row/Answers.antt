@@ -1,7 +1,4 @@
 -- `region_row` meets its contract: the words of `region_words`, placed.
-use mathlib.Core.Path.{sym, subst}
-use Rattle.rows.specs.Rows.{levels_of}
-use Rattle.activity.specs.Marks.{RegionRow}
 use Rattle.activity.proofs.WindowLaws.{window-asks, window-ends}
 use Rattle.activity.proofs.region_row.Goals as goal
 
@@ -12,8 +9,3 @@ pub region_words-requires : goal.region_words-requires
 region_words-requires c = let p = c.requires in
     let ends = window-ends c.args.h c.args.level c.args.b p.1 p.2 p.3 c.window_of-window.ensures in
     (p.0, p.2, ends.0, ends.1, p.4, p.5, p.6)
-
-pub returns : goal.returns
-returns c = let a = c.args in
-    subst (RegionRow a.w a.h a.level a.b a.region (levels_of a.rows.now)) (sym c.place.ensures)
-    (c.region_words.ensures a.h a.b c.requires.1 c.window_of-window.ensures)

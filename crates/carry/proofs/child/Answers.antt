@@ -4,15 +4,9 @@ use native.Mathlib.Omega.{arith}
 use borrow.Author.Rules.{sfits_of}
 use lib.IntN.{pos}
 use lib.ListN.{length, get_or}
-use Rattle.patch.proofs.Subdivision.{small, even-value, odd-value}
+use Rattle.patch.proofs.Subdivision.{even-value, odd-value}
 use Rattle.carry.proofs.ChildLaws.{odd-rest, child-even, child-odd}
 use Rattle.carry.proofs.child.Goals as goal
-
-pub even-requires : goal.even-requires
-even-requires c = let l = c.args.values.now in
-    let at = c.args.at in
-    let next = at + c.args.step in
-    (small (get_or l at (pos 0)) (c.requires.2 at (omega arith)), small (get_or l next (pos 0)) (c.requires.2 next c.requires.0))
 
 pub returns-then-c-eq0 : goal.returns-then-c-eq0
 returns-then-c-eq0 c = let l = c.args.values.now in
@@ -21,16 +15,6 @@ returns-then-c-eq0 c = let l = c.args.values.now in
     child-even l at c.args.step c.args.c c.requires.0 c.if-c-eq0.true
     (even-value (get_or l at (pos 0)) (get_or l next (pos 0)) (sfits_of c.even.type_inv) (c.requires.2 at (omega arith))
     (c.requires.2 next c.requires.0) c.even.ensures)
-
-pub odd-requires : goal.odd-requires
-odd-requires c = let l = c.args.values.now in
-    let at = c.args.at in
-    let next = at + c.args.step in
-    let last = next + c.args.step in (
-      small (get_or l at (pos 0)) (c.requires.2 at (omega arith)),
-      small (get_or l next (pos 0)) (c.requires.2 next c.requires.0),
-      small (get_or l last (pos 0)) (c.requires.2 last (c.requires.1 (odd-rest c.args.c c.if-c-eq0.false))),
-    )
 
 pub returns : goal.returns
 returns c = let l = c.args.values.now in
@@ -42,7 +26,3 @@ returns c = let l = c.args.values.now in
     child-odd l at c.args.step c.args.c three odd
     (odd-value (get_or l at (pos 0)) (get_or l next (pos 0)) (get_or l last (pos 0)) (sfits_of c.odd.type_inv)
     (c.requires.2 at (omega arith)) (c.requires.2 next c.requires.0) (c.requires.2 last three) c.odd.ensures)
-
-pub bounds-values-next-2 : goal.bounds-values-next-2
-bounds-values-next-2 c =
-    c.requires.1 (odd-rest c.args.c c.if-c-eq0.false)

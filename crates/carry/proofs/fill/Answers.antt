@@ -1,12 +1,11 @@
 -- Before each turn the levels up to `coarse` hold their carried values.
-use mathlib.Core.Path.{◌≡◌, sym, ◌∙◌, subst}
+use mathlib.Core.Path.{◌≡◌, ◌∙◌}
 use Prim.Native.Nat.{◌+◌}
 use native.Mathlib.Omega.{arith}
-use Rattle.surface.specs.Table.{start, coefficients}
+use Rattle.surface.specs.Table.{coefficients}
 use Rattle.surface.specs.Carry.{carried}
 use Rattle.surface.proofs.TableLaws.{start-before}
 use Rattle.rows.specs.Rows.{levels_of}
-use Rattle.carry.specs.Carried.{CarriedTo}
 use Rattle.passive.proofs.SliceLaws.{slice-whole}
 use Rattle.carry.proofs.CarryLaws.{level-zero}
 use Rattle.carry.proofs.fill.Goals as goal
@@ -17,19 +16,9 @@ copy-requires c = omega (arith, c.places.ensures.0, start-before c.args.w c.args
 pub loop-coarse-init : goal.loop-coarse-init
 loop-coarse-init c = let copied = c.copy in
     let few = c.places in
-    let a = c.args in (
-      omega arith,
-      level-zero a.w a.h a.rows.now a.numbers.now few.result _ c.requires.2
-          (copied.ensures.0 ∙ c.requires.3) few.ensures.0 copied.ensures.1,
-    )
-
-pub loop-coarse-preserved : goal.loop-coarse-preserved
-loop-coarse-preserved c = let a = c.args in
-    let next : c.loop-coarse.coarse + 2 ≡ c.loop-coarse.coarse + 1 + 1 = omega arith in (
-      omega (arith, c.loop-coarse-test.true),
-      subst (λ k. CarriedTo (start a.w a.h k) a.w a.h a.rows.now a.numbers.now
-          c.fill_level.new.out) next c.fill_level.ensures,
-    )
+    let a = c.args in
+    level-zero a.w a.h a.rows.now a.numbers.now few.result _ c.requires.2
+    (copied.ensures.0 ∙ c.requires.3) few.ensures.0 copied.ensures.1
 
 pub returns : goal.returns
 returns c = let loop = c.loop-coarse in
@@ -37,8 +26,4 @@ returns c = let loop = c.loop-coarse in
     let all : loop.coarse + 1 ≡ 4 = omega arith in
     slice-whole a.w a.h
     (carried a.w a.h (levels_of a.rows.now) (coefficients a.w a.h a.numbers.now)) loop.out
-    loop.invariant.1.size (rw all at loop.invariant.1.front)
-
-pub shape_of-out : goal.shape_of-out
-shape_of-out c =
-    c.loop-coarse.invariant.1.size ∙ sym c.requires.3
+    loop.invariant.size (rw all at loop.invariant.front)

@@ -1,7 +1,6 @@
 -- Before each turn the rows of the level below b hold their carried values.
 use mathlib.Core.Path.{◌≡◌, refl, sym, ap, ◌∙◌, subst}
 use Prim.Native.Nat.{◌+◌, ◌%◌, ◌≤◌, ◌<◌}
-use native.Mathlib.Nat.{le-add_right}
 use native.Mathlib.Numerals.{add-one}
 use native.Mathlib.Omega.{arith}
 use lib.ListN.{length}
@@ -28,7 +27,6 @@ begins c =
 
 pub loop-b-init : goal.loop-b-init
 loop-b-init c = let a = c.args in (
-  omega arith,
   begins (goal.at.loop-b-init c).After-places ∙ rows_none _ c.functions-n.result,
   subst (λ k. CarriedTo k a.w a.h a.rows.now a.numbers.now a.out.now) (sym (begins (goal.at.loop-b-init c).After-places))
       c.requires.6,
@@ -49,18 +47,17 @@ inside c =
     let a = c.args in
     rw c.requires.3
     (row-end a.w a.h (a.coarse + 1) loop.b c.functions-n.result loop.from
-    c.functions-n.ensures.0 loop.invariant.1 (omega (arith, c.requires.2)) (row c))
+    c.functions-n.ensures.0 loop.invariant.0 (omega (arith, c.requires.2)) (row c))
 
 same : (c : In-loop-b)
     → length c.loop-b.out ≡ length c.args.numbers.now
-same c =
-    c.loop-b.invariant.2.size ∙ sym c.requires.3
+same c = c.loop-b.invariant.1.size ∙ sym c.requires.3
 
 -- so is the coarser level's part
 reach : (c : In-loop-b)
     → c.start-low.result + c.places.result ≤ length c.loop-b.out
 reach c =
-    omega (arith, inside c, same c, begins c.before.before.before.before.before.before, c.loop-b.invariant.1)
+    omega (arith, inside c, same c, begins c.before.before.before.before.before.before, c.loop-b.invariant.0)
 
 -- the coarser level has its carried values
 coarser : (c : In-loop-b)
@@ -71,11 +68,7 @@ coarser c =
     let a = c.args in
     held a.w a.h a.rows.now a.numbers.now a.coarse _ c.start-low.result
     c.places.result c.loop-b.out (omega (arith, c.requires.2)) c.start-low.ensures.0
-    c.places.ensures.0 (reach c) (omega (arith, c.loop-b.invariant.1)) c.loop-b.invariant.2
-
-pub region_row-inside-requires : goal.region_row-inside-requires
-region_row-inside-requires c = let p = c.requires in
-    (p.0, p.1, omega (arith, p.2), row c, omega arith, omega (arith, p.2), p.4)
+    c.places.ensures.0 (reach c) (omega (arith, c.loop-b.invariant.0)) c.loop-b.invariant.1
 
 pub along_v-requires : goal.along_v-requires
 along_v-requires c = let a = c.args in
@@ -85,8 +78,8 @@ along_v-requires c = let a = c.args in
           (parents-fit a.w a.h a.coarse c.loop-b.b c.functions-columns.result
           c.functions-columns.ensures.0 (row (goal.at.along_v-requires c).In-loop-b)),
       holds-within a.w a.h a.rows.now a.numbers.now a.coarse _ c.requires.2 c.requires.5 h,
+      c.loop-b.invariant.2,
       c.loop-b.invariant.3,
-      c.loop-b.invariant.4,
     )
 
 pub fill_row-requires : goal.fill_row-requires
@@ -106,19 +99,15 @@ loop-b-preserved c = let loop = c.loop-b in
     let sums : AlongV (functions a.w a.coarse) (functions a.w a.coarse) loop.b
     (part c.start-low.result c.places.result loop.out) c.along_v.new.sums =
     rw c.functions-columns.ensures.0 at c.along_v.ensures in (
-      omega (arith, c.loop-b-test.true),
-      row_next loop.b c.functions-n.result (start a.w a.h (a.coarse + 1)) loop.invariant.1,
+      row_next loop.b c.functions-n.result (start a.w a.h (a.coarse + 1)) loop.invariant.0,
       row-carried a.w a.h a.rows.now a.numbers.now a.coarse loop.b c.eighths-e.result
           c.region_row-inside.result _ c.along_v.new.sums c.eighths-e.ensures (row (goal.at.loop-b-preserved c).In-loop-b)
           c.region_row-inside.ensures (coarser (goal.at.loop-b-preserved c).In-loop-b) sums c.functions-n.result loop.from loop.out
-          c.fill_row.new.row c.requires.2 c.functions-n.ensures.0 loop.invariant.1 c.requires.3
-          c.fill_row.ensures (c.out-1.given.1 ∙ loop.invariant.2.size) loop.invariant.2,
+          c.fill_row.new.row c.requires.2 c.functions-n.ensures.0 loop.invariant.0 c.requires.3
+          c.fill_row.ensures (c.out-1.given.1 ∙ loop.invariant.1.size) loop.invariant.1,
       sums.size,
       sums.small,
     )
-
-pub shape_of-out : goal.shape_of-out
-shape_of-out c = c.loop-b.invariant.2.size ∙ sym c.requires.6.size
 
 pub returns : goal.returns
 returns c = let loop = c.loop-b in
@@ -126,19 +115,7 @@ returns c = let loop = c.loop-b in
     let next : a.coarse + 1 + 1 ≡ a.coarse + 2 = omega arith in
     subst (λ k. CarriedTo k a.w a.h a.rows.now a.numbers.now loop.out)
     (rows_end a.w a.h (a.coarse + 1) loop.b c.functions-n.ensures.0 c.functions-m.ensures.0
-    loop.invariant.0 c.loop-b-test.false loop.invariant.1 ∙ ap (start a.w a.h) next) loop.invariant.2
-
-pub offset_bounds-out-low : goal.offset_bounds-out-low
-offset_bounds-out-low c =
-    omega (arith, inside (goal.at.offset_bounds-out-low c).In-loop-b)
-
-pub slice_bounds-along_v-count : goal.slice_bounds-along_v-count
-slice_bounds-along_v-count c =
-    le-add_right _ _
-
-pub slice_bounds-along_v-start : goal.slice_bounds-along_v-start
-slice_bounds-along_v-start c =
-    le-add_right _ _
+    (omega arith) c.loop-b-test.false loop.invariant.0 ∙ ap (start a.w a.h) next) loop.invariant.1
 
 pub slice_bounds-along_v-end : goal.slice_bounds-along_v-end
 slice_bounds-along_v-end c =
@@ -152,30 +129,6 @@ pub offset_bounds-out-from : goal.offset_bounds-out-from
 offset_bounds-out-from c =
     omega (arith, inside (goal.at.offset_bounds-out-from c).In-loop-b)
 
-pub slice_bounds-fill_row-count : goal.slice_bounds-fill_row-count
-slice_bounds-fill_row-count c =
-    le-add_right _ _
-
-pub slice_bounds-fill_row-start : goal.slice_bounds-fill_row-start
-slice_bounds-fill_row-start c =
-    le-add_right _ _
-
 pub slice_bounds-fill_row-end : goal.slice_bounds-fill_row-end
 slice_bounds-fill_row-end c =
     omega (arith, inside (goal.at.slice_bounds-fill_row-end c).In-loop-b, same (goal.at.slice_bounds-fill_row-end c).In-loop-b)
-
-pub offset_bounds-numbers-from : goal.offset_bounds-numbers-from
-offset_bounds-numbers-from c =
-    omega (arith, inside (goal.at.offset_bounds-numbers-from c).In-loop-b)
-
-pub slice_bounds-fill_row-count-in-loop-b : goal.slice_bounds-fill_row-count-in-loop-b
-slice_bounds-fill_row-count-in-loop-b c =
-    le-add_right _ _
-
-pub slice_bounds-fill_row-start-in-loop-b : goal.slice_bounds-fill_row-start-in-loop-b
-slice_bounds-fill_row-start-in-loop-b c =
-    le-add_right _ _
-
-pub slice_bounds-fill_row-end-in-loop-b : goal.slice_bounds-fill_row-end-in-loop-b
-slice_bounds-fill_row-end-in-loop-b c =
-    inside (goal.at.slice_bounds-fill_row-end-in-loop-b c).In-loop-b

@@ -1,5 +1,5 @@
 use mathlib.Core.Path.{◌≡◌}
-use Prim.Native.Nat.{◌+◌, ◌-◌, ◌*◌, ◌≤◌}
+use Prim.Native.Nat.{◌+◌, ◌*◌}
 use lib.ListN.{length}
 use Rattle.surface.specs.Table.{start}
 use Rattle.carry.specs.Carried.{CarriedTo, Within}
@@ -8,8 +8,5 @@ use Rattle.carry.proofs.fill_level.Given as goal
 
 abbrev pub invariant-loop-b : goal.invariant-loop-b
 invariant-loop-b l =
-    (l.b ≤ l.m) × (l.from ≡ start l.w l.h (l.coarse + 1) + l.b * l.n) × CarriedTo l.from l.w l.h l.rows l.numbers l.out
+    (l.from ≡ start l.w l.h (l.coarse + 1) + l.b * l.n) × CarriedTo l.from l.w l.h l.rows l.numbers l.out
     × (length l.sums ≡ 35) × Within midway l.sums
-
-abbrev pub decreases-loop-b : goal.decreases-loop-b
-decreases-loop-b l = l.m - l.b

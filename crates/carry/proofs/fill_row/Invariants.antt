@@ -1,5 +1,5 @@
 use mathlib.Core.List.{List}
-use Prim.Native.Nat.{◌≤◌, ◌-◌, ◌*◌}
+use Prim.Native.Nat.{◌*◌}
 use lib.IntN.{ℤ}
 use Rattle.carry.specs.Carried.{carried_if}
 use Rattle.passive.proofs.RowLaws.{Rule, Turn}
@@ -9,7 +9,4 @@ abbrev pub rule : List ℤ → Rule
 rule sums t a z = carried_if t z sums a
 
 abbrev pub invariant-loop-k : goal.invariant-loop-k
-invariant-loop-k l = (l.k ≤ l.pairs) × Turn (rule l.sums) l.e l.initial.m l.own l.initial.row (2 * l.k) l.m l.row
-
-abbrev pub decreases-loop-k : goal.decreases-loop-k
-decreases-loop-k l = l.pairs - l.k
+invariant-loop-k l = Turn (rule l.sums) l.e l.initial.m l.own l.initial.row (2 * l.k) l.m l.row

@@ -1,4 +1,4 @@
-use Prim.Native.Nat.{◌+◌, ◌-◌, ◌≤◌, ◌<◌}
+use Prim.Native.Nat.{◌+◌, ◌<◌}
 use Rattle.surface.specs.Sheet.{functions}
 use Rattle.rows.specs.Rows.{levels_of}
 use Rattle.coarsening.specs.Coarser.{cell_at, finer, Backed}
@@ -6,9 +6,5 @@ use Rattle.coarsening.proofs.back_level.Given as goal
 
 abbrev pub invariant-loop-y : goal.invariant-loop-y
 invariant-loop-y l =
-    (l.y ≤ l.high)
-    × Backed l.w l.h (levels_of l.rows) l.level (finer l.level l.body l.fine (functions l.w (l.level + 1))) (λ q r. cell_at l.level r < l.y)
-    l.coarse
-
-abbrev pub decreases-loop-y : goal.decreases-loop-y
-decreases-loop-y l = l.high - l.y
+    Backed l.w l.h (levels_of l.rows) l.level (finer l.level l.body l.fine (functions l.w (l.level + 1)))
+    (λ q r. cell_at l.level r < l.y) l.coarse

@@ -1,14 +1,11 @@
-use Prim.Native.Nat.{◌+◌, ◌-◌, ◌≤◌}
+use Prim.Native.Nat.{◌+◌}
 use Rattle.surface.specs.Sheet.{functions}
 use Rattle.rows.specs.Rows.{levels_of}
 use Rattle.coarsening.specs.Coarser.{finer}
 use Rattle.coarsening.proofs.RowLaws.{Met}
 use Rattle.coarsening.proofs.back_row.Given as goal
 
-abbrev pub invariant-loop-next : goal.invariant-loop-next
-invariant-loop-next l =
-    (l.next ≤ l.columns)
-    × Met l.w l.h (levels_of l.rows) l.level (finer l.level l.body l.fine (functions l.w (l.level + 1))) l.y l.waiting l.done l.next l.coarse
-
-abbrev pub decreases-loop-next : goal.decreases-loop-next
-decreases-loop-next l = l.columns - l.next
+abbrev pub invariant-loop-x : goal.invariant-loop-x
+invariant-loop-x l =
+    Met l.w l.h (levels_of l.rows) l.level (finer l.level l.body l.fine (functions l.w (l.level + 1))) l.y l.waiting
+    l.done l.x l.coarse

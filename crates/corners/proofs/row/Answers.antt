@@ -22,14 +22,13 @@ within c = sides (sound c.args.w c.args.h c.requires.1.0 c.args.numbers.now c.re
 
 pub loop-u-init : goal.loop-u-init
 loop-u-init c = let a = c.args in (
-  omega arith,
   refl,
   omega arith,
   λ t e h. put-none (corner_line a.w a.h t a.numbers.now a.v) a.start a.out.now,
 )
 
 pub watts_at-watts-requires : goal.watts_at-watts-requires
-watts_at-watts-requires c = let p = c.requires in (c.loop-u-test.true, p.0, p.1)
+watts_at-watts-requires c = let p = c.requires in (omega (arith, c.loop-u-test.true), p.0, p.1)
 
 -- the watts as the machine holds them, and the length of their line
 as-held : (c : After-watts_at-watts)
@@ -50,42 +49,38 @@ line-at-requires c = omega (
   short (goal.at.line-at-requires c).After-watts_at-watts,
   within (goal.at.line-at-requires c).Start,
   c.loop-u-test.true,
+  c.loop-u.invariant.0,
   c.loop-u.invariant.1,
-  c.loop-u.invariant.2,
   c.requires.2,
 )
 
-pub overflow_add-u : goal.overflow_add-u
-overflow_add-u c = omega (arith, within (goal.at.overflow_add-u c).Start)
-
-pub loop-u-smaller : goal.loop-u-smaller
-loop-u-smaller c = omega (arith, c.loop-u-test.true)
+pub overflow_add-u-end : goal.overflow_add-u-end
+overflow_add-u-end c = omega (arith, within (goal.at.overflow_add-u-end c).Start)
 
 pub loop-u-preserved : goal.loop-u-preserved
 loop-u-preserved c = let a = c.args in
     let z = c.watts_at-watts.result in
     let text = line c.loop-u.u a.v (to_z w64 (of_z w64 z)) in (
-      omega (arith, c.loop-u-test.true),
-      c.line-at.auto.out ∙ c.loop-u.invariant.1,
-      omega (arith, short (goal.at.loop-u-preserved c).After-watts_at-watts, c.line-at.ensures.0, c.loop-u.invariant.2),
+      c.line-at.auto.out ∙ c.loop-u.invariant.0,
+      omega (arith, short (goal.at.loop-u-preserved c).After-watts_at-watts, c.line-at.ensures.0, c.loop-u.invariant.1),
       λ t e h.
           put_next c.loop-u.u (corner_line a.w a.h t a.numbers.now a.v) text a.start a.out.now
-          c.loop-u.at c.loop-u.out c.line-at.result c.line-at.new.out (c.loop-u.invariant.3 t e h)
+          c.loop-u.at c.loop-u.out c.line-at.result c.line-at.new.out (c.loop-u.invariant.2 t e h)
           c.line-at.ensures
           (ap (line c.loop-u.u a.v) (as-held (goal.at.loop-u-preserved c).After-watts_at-watts ∙ c.watts_at-watts.ensures.0 t e h)),
     )
 
 pub shape_of-out : goal.shape_of-out
-shape_of-out c = c.loop-u.invariant.1
+shape_of-out c = c.loop-u.invariant.0
 
 pub returns : goal.returns
 returns c = let a = c.args in
-    let all : c.loop-u.u ≡ a.w + 1 = omega (arith, c.loop-u-test.false, c.loop-u.invariant.0) in (
+    let all : c.loop-u.u ≡ a.w + 1 = omega (arith, c.loop-u-test.false) in (
       λ t e h.
           subst
           (λ n. Put (joined n (corner_line a.w a.h t a.numbers.now a.v)) a.start a.out.now
           c.loop-u.at c.loop-u.out)
           all
-          (c.loop-u.invariant.3 t e h),
-      omega (arith, within (goal.at.returns c).Start, c.loop-u.invariant.2),
+          (c.loop-u.invariant.2 t e h),
+      omega (arith, within (goal.at.returns c).Start, c.loop-u.invariant.1),
     )

@@ -1,6 +1,6 @@
 use mathlib.Core.Path.{◌≡◌}
 use mathlib.Core.List.{List}
-use Prim.Native.Nat.{ℕ, ◌+◌, ◌-◌, ◌*◌, ◌≤◌}
+use Prim.Native.Nat.{ℕ, ◌+◌, ◌*◌, ◌≤◌}
 use lib.ListN.{length}
 use Rattle.surface.specs.Table.{Acceptable}
 use Rattle.rows.specs.Rows.{level_rows}
@@ -11,11 +11,7 @@ use Rattle.corners.proofs.row.Given as goal
 
 abbrev pub invariant-loop-u : goal.invariant-loop-u
 invariant-loop-u l =
-    (l.u ≤ l.w + 1)
-    × (length l.out ≡ length l.initial.out)
+    (length l.out ≡ length l.initial.out)
     × (l.at ≤ l.start + 11 * l.u)
     × ((t : List ℕ) → l.rows ≡ level_rows t → Acceptable l.w l.h t l.numbers
     → Put (joined l.u (corner_line l.w l.h t l.numbers l.v)) l.start l.initial.out l.at l.out)
-
-abbrev pub decreases-loop-u : goal.decreases-loop-u
-decreases-loop-u l = l.w + 1 - l.u

@@ -42,7 +42,6 @@ header-at-requires c = omega (arith, c.requires.1)
 
 pub loop-v-init : goal.loop-v-init
 loop-v-init c = let a = c.args in (
-  omega arith,
   refl,
   omega arith,
   put-none (λ v. joined (a.w + 1) (corner_line a.w a.h a.tree.now a.numbers.now v))
@@ -51,50 +50,46 @@ loop-v-init c = let a = c.args in (
 
 pub row-at-requires : goal.row-at-requires
 row-at-requires c = let taken = c.loop-v-test.true in (
-  taken,
+  omega (arith, taken),
   (c.args.tree.now, painted (goal.at.row-at-requires c).After-regions, c.requires.0),
   omega (
     arith,
     taken,
     within (goal.at.row-at-requires c).Start,
+    c.loop-v.invariant.0,
     c.loop-v.invariant.1,
-    c.loop-v.invariant.2,
     c.header-at.ensures.0,
     c.header-at.auto.out,
     c.requires.1,
   ),
 )
 
-pub overflow_add-v : goal.overflow_add-v
-overflow_add-v c = omega (arith, c.loop-v.invariant.0, within (goal.at.overflow_add-v c).Start)
-
-pub loop-v-smaller : goal.loop-v-smaller
-loop-v-smaller c = omega (arith, c.loop-v-test.true)
+pub overflow_add-v-end : goal.overflow_add-v-end
+overflow_add-v-end c = omega (arith, within (goal.at.overflow_add-v-end c).Start)
 
 pub loop-v-preserved : goal.loop-v-preserved
 loop-v-preserved c = let a = c.args in
     let rows : ℕ → List ℕ = λ v. joined (a.w + 1) (corner_line a.w a.h a.tree.now a.numbers.now v) in (
-      omega (arith, c.loop-v-test.true),
-      c.row-at.auto.out ∙ c.loop-v.invariant.1,
-      omega (arith, c.row-at.ensures.1, c.loop-v.invariant.2),
+      c.row-at.auto.out ∙ c.loop-v.invariant.0,
+      omega (arith, c.row-at.ensures.1, c.loop-v.invariant.1),
       put_next c.loop-v.v rows (rows c.loop-v.v) c.header-at.result c.header-at.new.out c.loop-v.at
-          c.loop-v.out c.row-at.result c.row-at.new.out c.loop-v.invariant.3
+          c.loop-v.out c.row-at.result c.row-at.new.out c.loop-v.invariant.2
           (c.row-at.ensures.0 a.tree.now (painted (goal.at.loop-v-preserved c).After-regions) c.requires.0)
           refl,
     )
 
 pub shape_of-out : goal.shape_of-out
-shape_of-out c = c.loop-v.invariant.1 ∙ c.header-at.auto.out
+shape_of-out c = c.loop-v.invariant.0 ∙ c.header-at.auto.out
 
 pub returns : goal.returns
 returns c = let a = c.args in
     let rows : ℕ → List ℕ = λ v. joined (a.w + 1) (corner_line a.w a.h a.tree.now a.numbers.now v) in
-    let all : c.loop-v.v ≡ a.h + 1 = omega (arith, c.loop-v-test.false, c.loop-v.invariant.0) in
+    let all : c.loop-v.v ≡ a.h + 1 = omega (arith, c.loop-v-test.false) in
     let r = c.header-at.result in
     let o = c.header-at.new.out in
-    let put = subst (λ n. Put (joined n rows) r o c.loop-v.at c.loop-v.out) all c.loop-v.invariant.3 in (
+    let put = subst (λ n. Put (joined n rows) r o c.loop-v.at c.loop-v.out) all c.loop-v.invariant.2 in (
       rw (← table-parts a.w a.h a.tree.now a.numbers.now)
           (put_both header (joined (a.h + 1) rows) 0 a.out.now r o c.loop-v.at c.loop-v.out
           c.header-at.ensures put),
-      omega (arith, within (goal.at.returns c).Start, c.loop-v.invariant.2, c.header-at.ensures.0),
+      omega (arith, within (goal.at.returns c).Start, c.loop-v.invariant.1, c.header-at.ensures.0),
     )

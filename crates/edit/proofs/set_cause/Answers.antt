@@ -1,5 +1,6 @@
 -- Each way out of `set_cause` gives the cause of document 01.
-use mathlib.Core.Path.{◌≡◌, sym, ap, ap₂, ◌∙◌}
+use Rattle.std.proofs.lemmas.Result.{err_from_is_err_and}
+use mathlib.Core.Path.{◌≡◌, refl, sym, ap, ap₂, ◌∙◌}
 use mathlib.Core.Bool.{Bool, not, ◌&&◌}
 use Prim.Native.Nat.{ℕ}
 use borrow.Author.Rules.{sfits_of}
@@ -16,32 +17,35 @@ use Rattle.surface.proofs.Causes.{first, past}
 use Rattle.rows.specs.Rows.{levels_of, level_rows}
 use Rattle.rows.proofs.RowLaws.{rows-nested, rows-least}
 use Rattle.coefficients.proofs.Sizes.{limit-below}
+use Rattle.answers.proofs.AnswerLaws.{number-positive}
 use Rattle.edit.proofs.SetLaws.{table_none}
-use Rattle.edit.proofs.set_cause.Goals.{After-limit, After-past, After-settable, Else-cause-ne0}
+use Rattle.edit.proofs.set_cause.Goals.{After-limit, After-past, After-settable, In_ok-check}
 use Rattle.edit.proofs.set_cause.Goals as goal
 
-pub returns-then-cause-ne0 : goal.returns-then-cause-ne0
+pub returns-in_err-check : goal.returns-in_err-check
 unfolding set_cause
-returns-then-cause-ne0 c = first c.check-cause.ensures.0 c.if-cause-ne0.true _
+returns-in_err-check c =
+    let p = err_from_is_err_and c.from_residual.result c.from_residual.ensures.1 in
+    rw (p.1, p.2) (first c.in_err-check.ensures.0 (number-positive c.in_err-check.field-0.0) _)
 
 -- past the first five causes
-none : (c : Else-cause-ne0)
+none : (c : In_ok-check)
     → let a = c.args in 0 ≡ table_cause a.w a.h a.t.now a.numbers.now
-none c = sym c.if-cause-ne0.false ∙ c.check-cause.ensures.0
+none c = c.in_ok-check.ensures.0
 
 -- the rows are those of the tree's levels
-painted : (c : Else-cause-ne0)
-    → c.check-cause.new.rows ≡ level_rows c.args.t.now
-painted c = c.check-cause.ensures.1 c.if-cause-ne0.false
+painted : (c : In_ok-check)
+    → c.check.new.rows ≡ level_rows c.args.t.now
+painted c = c.in_ok-check.ensures.1 refl
 
 pub returns-then-level-gt3 : goal.returns-then-level-gt3
 unfolding set_cause
-returns-then-level-gt3 c = past (none (goal.at.returns-then-level-gt3 c).Else-cause-ne0) (rw (lt-ltb 3 _ c.if-level-gt3.true))
+returns-then-level-gt3 c = past (none (goal.at.returns-then-level-gt3 c).In_ok-check) (rw (lt-ltb 3 _ c.if-level-gt3.true))
 
 pub settable-requires : goal.settable-requires
 settable-requires c = let a = c.args in
-    let f = table_none a.w a.h a.t.now a.numbers.now (none (goal.at.settable-requires c).Else-cause-ne0) in
-    (f.1, f.3, c.if-level-gt3.false, rw (painted (goal.at.settable-requires c).Else-cause-ne0) (rows-nested (levels a.t.now)))
+    let f = table_none a.w a.h a.t.now a.numbers.now (none (goal.at.settable-requires c).In_ok-check) in
+    (f.1, f.3, c.if-level-gt3.false, rw (painted (goal.at.settable-requires c).In_ok-check) (rows-nested (levels a.t.now)))
 
 -- past cause 8, by the test of the function
 may-set : (c : After-settable)
@@ -52,15 +56,15 @@ may-set : (c : After-settable)
     && active a.w a.h (levels a.t.now) a.level (index a.i) (index a.j))
 may-set c =
     let a = c.args in
-    let rows = c.check-cause.new.rows in
-    let few = table_none a.w a.h a.t.now a.numbers.now ((let it : let a = c.args in 0 ≡ table_cause a.w a.h a.t.now a.numbers.now = sym c.if-cause-ne0.false ∙ c.check-cause.ensures.0 in it)) in
+    let rows = c.check.new.rows in
+    let few = table_none a.w a.h a.t.now a.numbers.now ((let it : let a = c.args in 0 ≡ table_cause a.w a.h a.t.now a.numbers.now = c.in_ok-check.ensures.0 in it)) in
     let fit : ℤ → ℤ → Bool = λ i j. index_fits a.w a.level i && index_fits a.h a.level j
     && active a.w a.h (levels_of rows) a.level (index i) (index j) in
     c.settable.ensures
     ∙ ap₂ fit (to_z-of_z w64 a.i c.ranges.i) (to_z-of_z w64 a.j c.ranges.j)
     ∙ ap (λ l. index_fits a.w a.level a.i && index_fits a.h a.level a.j && eqb l a.level)
     (rows-least a.w a.h a.t.now rows a.level (index a.i) (index a.j) few.1 few.3
-    ((let it : c.check-cause.new.rows ≡ level_rows c.args.t.now = c.check-cause.ensures.1 c.if-cause-ne0.false in it)))
+    ((let it : c.check.new.rows ≡ level_rows c.args.t.now = c.in_ok-check.ensures.1 refl in it)))
 
 -- past the table and the level
 by : {k : ℕ} (c : After-settable)
@@ -70,7 +74,7 @@ by : {k : ℕ} (c : After-settable)
 unfolding set_cause
 by c e =
     let a = c.args in
-    past ((let it : let a = c.args in 0 ≡ table_cause a.w a.h a.t.now a.numbers.now = sym c.if-cause-ne0.false ∙ c.check-cause.ensures.0 in it))
+    past ((let it : let a = c.args in 0 ≡ table_cause a.w a.h a.t.now a.numbers.now = c.in_ok-check.ensures.0 in it))
     (past (ap (cause 8) (sym (le-ltb 3 _ c.if-level-gt3.false)))
     (e ∙ ap (λ s. cause 9 (not s) or_else cause 10 (ltb (limit a.level) (nat_abs a.number))) (may-set c)))
 
@@ -94,10 +98,10 @@ size c =
     ∙ ap (λ z. ltb (limit c.args.level) (nat_abs z)) (to_z-of_z w64 c.args.number c.ranges.number)
 
 pub returns-then-past : goal.returns-then-past
-returns-then-past c = by (goal.at.returns-then-past c).After-settable (rw (c.if-settable.true, ← (size (goal.at.returns-then-past c).After-past), c.if-past.true))
-
-pub returns-then-settable : goal.returns-then-settable
-returns-then-settable c = by (goal.at.returns-then-settable c).After-settable (rw (c.if-settable.true, ← (size (goal.at.returns-then-settable c).After-past), c.if-past.false))
+returns-then-past c = by (goal.at.returns-then-past c).After-settable (rw (c.if-not-settable.false, ← (size (goal.at.returns-then-past c).After-past), c.if-past.true))
 
 pub returns : goal.returns
-returns c = by (goal.at.returns c).After-settable (rw c.if-settable.false)
+returns c = by (goal.at.returns c).After-settable (rw (c.if-not-settable.false, ← (size (goal.at.returns c).After-past), c.if-past.false))
+
+pub returns-then-not-settable : goal.returns-then-not-settable
+returns-then-not-settable c = by (goal.at.returns-then-not-settable c).After-settable (rw c.if-not-settable.true)

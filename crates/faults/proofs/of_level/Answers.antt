@@ -1,8 +1,7 @@
 -- Before each turn the flags say the faults of the rows below b.
-use mathlib.Core.Path.{◌≡◌, ap, ◌∙◌, subst}
+use mathlib.Core.Path.{◌≡◌, refl, ap, ◌∙◌, subst}
 use mathlib.Core.Bool.{not}
 use Prim.Native.Nat.{◌+◌, ◌≤◌, ◌<◌}
-use native.Mathlib.Nat.{le-add_right}
 use native.Mathlib.Omega.{arith}
 use borrow.Author.Rules.{sfits_of}
 use lib.IntN.{pos}
@@ -22,7 +21,7 @@ use Rattle.faults.proofs.of_level.Goals as goal
 
 pub loop-b-init : goal.loop-b-init
 loop-b-init c = let first = c.start-from.ensures.0 in
-    (omega arith, first ∙ rows_none _ c.functions-n.result, none-lost _, none-lost _)
+    (first ∙ rows_none _ c.functions-n.result, none-lost _ c.default-faults.ensures.0, none-lost _ c.default-faults.ensures.1)
 
 -- a turn's row is one of the level's, and inside the slice
 row : (c : In-loop-b)
@@ -36,60 +35,43 @@ inside c =
     let a = c.args in
     rw c.requires.3
     (row-end a.w a.h a.level c.loop-b.b c.functions-n.result c.loop-b.from
-    c.functions-n.ensures.0 c.loop-b.invariant.1 (omega (arith, c.requires.2)) (row c))
+    c.functions-n.ensures.0 c.loop-b.invariant.0 (omega (arith, c.requires.2)) (row c))
 
 -- the bound as a callee has it
 bound : (c : After-limit-bound)
     → to_z w64 (of_z w64 c.limit-bound.result) ≡ pos (limit c.args.level)
 bound c = to_z-of_z w64 c.limit-bound.result (sfits_of c.limit-bound.type_inv) ∙ c.limit-bound.ensures
 
-pub of_row-f-requires : goal.of_row-f-requires
-of_row-f-requires c = let n = c.functions-n.result in (
+pub of_row-found-requires : goal.of_row-found-requires
+of_row-found-requires c = let n = c.functions-n.result in (
   c.requires.0,
   c.requires.1,
   c.requires.2,
-  row (goal.at.of_row-f-requires c).In-loop-b,
+  row (goal.at.of_row-found-requires c).In-loop-b,
   c.requires.4,
-  part_length c.loop-b.from n c.args.numbers.now (inside (goal.at.of_row-f-requires c).In-loop-b) ∙ c.functions-n.ensures.0,
-  (limit c.args.level, bound (goal.at.of_row-f-requires c).After-limit-bound, limit-below c.args.level c.requires.2),
+  part_length c.loop-b.from n c.args.numbers.now (inside (goal.at.of_row-found-requires c).In-loop-b) ∙ c.functions-n.ensures.0,
+  (limit c.args.level, bound (goal.at.of_row-found-requires c).After-limit-bound, limit-below c.args.level c.requires.2),
 )
 
 pub loop-b-preserved : goal.loop-b-preserved
 loop-b-preserved c = let loop = c.loop-b in
     let a = c.args in
     let n = c.functions-n.result in
-    let faults = c.of_row-f.ensures (limit a.level) (bound (goal.at.loop-b-preserved c).After-limit-bound) in
+    let faults = c.of_row-found.ensures (limit a.level) (bound (goal.at.loop-b-preserved c).After-limit-bound) in
     let holds = row-holds a.w a.h a.level loop.b n loop.from a.numbers.now (levels_of a.rows.now)
-    c.functions-n.ensures.0 loop.invariant.1 (inside (goal.at.loop-b-preserved c).In-loop-b) in (
-      omega (arith, c.loop-b-test.true),
-      row_next loop.b n (start a.w a.h a.level) loop.invariant.1,
-      lost-more loop.b _ loop.invariant.2 (faults.limits ∙ ap not (holds limits)) c.either-over.ensures,
-      lost-more loop.b _ loop.invariant.3 (faults.zeros ∙ ap not (holds zeros)) c.either-stray.ensures,
+    c.functions-n.ensures.0 loop.invariant.0 (inside (goal.at.loop-b-preserved c).In-loop-b) in (
+      row_next loop.b n (start a.w a.h a.level) loop.invariant.0,
+      lost-more loop.b _ loop.invariant.1 (faults.limits ∙ ap not (holds limits)) refl,
+      lost-more loop.b _ loop.invariant.2 (faults.zeros ∙ ap not (holds zeros)) refl,
     )
 
 pub returns : goal.returns
 returns c = let loop = c.loop-b in
     let a = c.args in
-    let last : loop.b ≡ c.functions-m.result = omega (arith, c.loop-b-test.false, loop.invariant.0) in
+    let last : loop.b ≡ c.functions-m.result = omega (arith, c.loop-b-test.false) in
     let whole = rows-done a.w a.h (levels_of a.rows.now) a.numbers.now a.level loop.b
     (last ∙ c.functions-m.ensures.0) in
-    record { limited = loop.invariant.2 ∙ whole limits; zeroed = loop.invariant.3 ∙ whole zeros }
-
-pub overflow_add-to : goal.overflow_add-to
-overflow_add-to c =
-    omega (arith, inside c)
-
-pub offset_bounds-numbers-from : goal.offset_bounds-numbers-from
-offset_bounds-numbers-from c =
-    omega (arith, inside c)
-
-pub slice_bounds-of_row-count : goal.slice_bounds-of_row-count
-slice_bounds-of_row-count c =
-    le-add_right _ _
-
-pub slice_bounds-of_row-start : goal.slice_bounds-of_row-start
-slice_bounds-of_row-start c =
-    le-add_right _ _
+    record { limited = loop.invariant.1 ∙ whole limits; zeroed = loop.invariant.2 ∙ whole zeros }
 
 pub slice_bounds-of_row-end : goal.slice_bounds-of_row-end
 slice_bounds-of_row-end c =

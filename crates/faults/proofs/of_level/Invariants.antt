@@ -1,6 +1,6 @@
 use mathlib.Core.Path.{◌≡◌}
 use mathlib.Core.Bool.{not}
-use Prim.Native.Nat.{◌+◌, ◌-◌, ◌*◌, ◌≤◌}
+use Prim.Native.Nat.{◌+◌, ◌*◌}
 use Rattle.rows.specs.Rows.{levels_of}
 use Rattle.surface.specs.Table.{start}
 use Rattle.faults.specs.Faults.{limits, zeros}
@@ -9,10 +9,6 @@ use Rattle.faults.proofs.of_level.Given as goal
 
 abbrev pub invariant-loop-b : goal.invariant-loop-b
 invariant-loop-b l =
-    (l.b ≤ l.m)
-    × (l.from ≡ start l.w l.h l.level + l.b * l.n)
-    × (l.over ≡ not (holds_below limits l.w l.h (levels_of l.rows) l.numbers l.level l.b))
-    × (l.stray ≡ not (holds_below zeros l.w l.h (levels_of l.rows) l.numbers l.level l.b))
-
-abbrev pub decreases-loop-b : goal.decreases-loop-b
-decreases-loop-b l = l.m - l.b
+    (l.from ≡ start l.w l.h l.level + l.b * l.n)
+    × (l.faults.over ≡ not (holds_below limits l.w l.h (levels_of l.rows) l.numbers l.level l.b))
+    × (l.faults.stray ≡ not (holds_below zeros l.w l.h (levels_of l.rows) l.numbers l.level l.b))

@@ -11,7 +11,7 @@ use Rattle.faults.proofs.RowFaultLaws.{zero_row, same-marks}
 use Rattle.faults.proofs.of_row.Goals as goal
 
 pub returns-then-only_zeros : goal.returns-then-only_zeros
-returns-then-only_zeros c m e = zero_row m _ c.args.row.now (c.only_zeros.ensures c.if-only_zeros.true)
+returns-then-only_zeros c m e = zero_row m _ c.args.row.now c.default.ensures.0 c.default.ensures.1 (c.only_zeros.ensures c.if-only_zeros.true)
 
 pub of_marked-requires : goal.of_marked-requires
 of_marked-requires c = let a = c.args in

@@ -17,21 +17,11 @@ returns-then-not-row_agrees c = (
 )
 
 pub loop-b-preserved : goal.loop-b-preserved
-loop-b-preserved c = (
-  omega (arith, c.loop-b-test.true),
-  below_more _ c.loop-b.b c.loop-b.invariant.1 (c.row_agrees.ensures.0 c.if-not-row_agrees.false),
-)
+loop-b-preserved c =
+    below_more _ c.loop-b.b c.loop-b.invariant (c.row_agrees.ensures.0 c.if-not-row_agrees.false)
 
 pub returns : goal.returns
 returns c = (
-  λ _ a b ha hb. c.loop-b.invariant.1 b (omega (arith, c.functions-m.ensures.0, c.loop-b-test.false)) a ha,
+  λ _ a b ha hb. c.loop-b.invariant b (omega (arith, c.functions-m.ensures.0, c.loop-b-test.false)) a ha,
   λ t. absurd (true≢false t),
 )
-
-pub loop-b-init : goal.loop-b-init
-loop-b-init c =
-    (omega arith, λ j h. absurd (omega arith))
-
-pub overflow_add-b : goal.overflow_add-b
-overflow_add-b c =
-    omega (arith, c.loop-b-test.true, c.functions-m.ensures)

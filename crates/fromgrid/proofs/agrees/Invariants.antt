@@ -1,4 +1,5 @@
-use Prim.Native.Nat.{ℕ, ◌+◌, ◌-◌, ◌≤◌, ◌<◌}
+-- Before each turn the rows below b agree.
+use Prim.Native.Nat.{ℕ, ◌+◌, ◌<◌}
 use Rattle.surface.specs.Sheet.{functions}
 use Rattle.rows.specs.Rows.{levels_of}
 use Rattle.coarsening.specs.Coarser.{finer}
@@ -7,10 +8,6 @@ use Rattle.fromgrid.proofs.agrees.Given as goal
 
 abbrev pub invariant-loop-b : goal.invariant-loop-b
 invariant-loop-b l =
-    (l.b ≤ l.m)
-    × ((j : ℕ) → j < l.b → (a : ℕ) → a < functions l.w (l.level + 1)
+    (j : ℕ) → j < l.b → (a : ℕ) → a < functions l.w (l.level + 1)
     → AgreesAt l.w l.h (levels_of l.rows) l.level (in_rows (functions l.w l.level) l.coarse)
-    (finer l.level l.body l.fine (functions l.w (l.level + 1))) a j)
-
-abbrev pub decreases-loop-b : goal.decreases-loop-b
-decreases-loop-b l = l.m - l.b
+    (finer l.level l.body l.fine (functions l.w (l.level + 1))) a j

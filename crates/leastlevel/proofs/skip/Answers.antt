@@ -69,9 +69,6 @@ begins-end-requires c = byte (goal.at.begins-end-requires c).In-loop-next
 pub overflow_add-end-in-loop-next : goal.overflow_add-end-in-loop-next
 overflow_add-end-in-loop-next c = omega (arith, few (goal.at.overflow_add-end-in-loop-next c).In-loop-next, c.begins-end.ensures, begun-few (get_or (bytes_of (goal.at.overflow_add-end-in-loop-next c).In-loop-next) (next (goal.at.overflow_add-end-in-loop-next c).In-loop-next) 0), (start (goal.at.overflow_add-end-in-loop-next c).In-loop-next).well_formed.0.1)
 
-pub overflow_add-next : goal.overflow_add-next
-overflow_add-next c = omega (arith, inside (goal.at.overflow_add-next c).In-loop-next, (start (goal.at.overflow_add-next c).In-loop-next).well_formed.0.1)
-
 pub loop-next-smaller : goal.loop-next-smaller
 loop-next-smaller c = omega (arith, inside (goal.at.loop-next-smaller c).In-loop-next)
 

@@ -1,10 +1,9 @@
 -- A tree of one leaf has the leaf's level under each box; the walk of another tree finds the levels.
-use mathlib.Core.Path.{refl}
-use mathlib.Core.List.{[], ◌∷◌}
 use native.Mathlib.Omega.{arith}
 use lib.ListN.{get_or}
 use Rattle.quadtree.specs.Subtree.{Readable}
 use Rattle.boxes.specs.Boxes.{box_of}
+use Rattle.leastlevel.specs.declared.Levels.{Levels}
 use Rattle.quadtree.proofs.SubtreeLaws.{tree-subtree}
 use Rattle.leastlevel.proofs.LevelLaws.{root-meets}
 use Rattle.leastlevel.proofs.WalkLaws.{readable-inside, nothing, visited-root, walk-leaf, walk-whole}
@@ -22,13 +21,13 @@ returns-then-root-le3 c = let a = c.args in
     let p = c.requires in
     let b = box_of a.b in
     let l = get_or a.t.now 0 0 in
-    let found = l ∷ l ∷ 1 ∷ [] in
+    let found : Levels = record { least = l; greatest = l; visited = 1 } in
     walk-whole a.w a.h b a.t.now 1 found p.0 p.1 p.2 p.3
     (walk-leaf b a.t.now 0 0 32 0 nothing found (readable-inside (readable (goal.at.returns-then-root-le3 c).Start)) c.if-root-le3.true (omega arith)
     (omega arith) (root-meets a.w a.h b p.0 p.1 p.3) (visited-root l c.if-root-le3.true))
 
 pub walk-requires : goal.walk-requires
-walk-requires c = (omega arith, omega arith, readable (goal.at.walk-requires c).Start, refl, omega arith, omega arith)
+walk-requires c = (omega arith, omega arith, readable (goal.at.walk-requires c).Start, omega arith, omega arith)
 
 pub returns : goal.returns
 returns c = let a = c.args in

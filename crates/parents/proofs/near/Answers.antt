@@ -39,12 +39,6 @@ other-of n =
 other-kept : (n : After-other-p2) → to_z w64 (of_z w64 n.other-p2.result) ≡ n.other-p2.result
 other-kept n = to_z-of_z w64 n.other-p2.result (sfits_of n.other-p2.type_inv)
 
-pub other-p2-requires : goal.other-p2-requires
-other-p2-requires n = (rw (kept n.args.c n.requires.2 (lit< tt)) n.requires.2, rw (second-kept n) (second-small n))
-
-pub other-requires : goal.other-requires
-other-requires c = (rw (kept c.args.a c.requires.0 (lit< tt)) c.requires.0, rw (second-kept (goal.at.other-requires c).After-second-p1) (second-small (goal.at.other-requires c).After-second-p1))
-
 pub third-requires : goal.third-requires
 third-requires c = (
   rw (kept c.args.d c.requires.3 (lit< tt)) c.requires.3,

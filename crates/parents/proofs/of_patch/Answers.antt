@@ -1,11 +1,6 @@
 -- `of_patch`: the step along u undone, then the one along v.
-use native.Mathlib.Omega.{arith}
-use Rattle.patch.proofs.Subdivision.{bounded-le}
 use Rattle.parents.proofs.Algebra.{both-back}
 use Rattle.parents.proofs.of_patch.Goals as goal
-
-pub across-requires : goal.across-requires
-across-requires c = (c.requires.0, bounded-le c.args.p (omega arith) c.requires.2)
 
 pub across-requires-2 : goal.across-requires-2
 across-requires-2 c = (c.requires.1, c.across.ensures.1 8388608000 c.requires.2)

@@ -1,31 +1,12 @@
 -- `second`: 16 times the parent is a difference of its children.
 use mathlib.Core.Path.{◌∙◌}
-use native.Mathlib.Omega.{arith}
 use lib.Dec.{lit<}
 use lib.IntN.{pos, ◌-ℤ◌, ◌*ℤ◌}
 use lib.Signed.{quot_z}
-use Rattle.patch.proofs.Size.{literal, holds, mul-fits, mul_holds}
-use Rattle.parents.proofs.Sizes.{sub-fits, sub_holds, quot_fits, quot-holds}
+use Rattle.patch.proofs.Size.{literal, holds, mul_holds}
+use Rattle.parents.proofs.Sizes.{sub_holds, quot-holds}
 use Rattle.parents.proofs.Algebra.{second_is, second-size}
 use Rattle.parents.proofs.second.Goals as goal
-
-pub overflow_mul-result : goal.overflow_mul-result
-overflow_mul-result c = mul-fits (literal 4 (lit< tt)) (holds c.args.b c.requires.1 (lit< tt)) (lit< tt)
-
-pub overflow_sub-result : goal.overflow_sub-result
-overflow_sub-result c = let b = mul_holds (literal 4 (lit< tt)) (holds c.args.b c.requires.1 (lit< tt)) (lit< tt) in
-    sub-fits b (holds c.args.a c.requires.0 (lit< tt)) (lit< tt)
-
-pub overflow_sub-result-2 : goal.overflow_sub-result-2
-overflow_sub-result-2 c = let b = mul_holds (literal 4 (lit< tt)) (holds c.args.b c.requires.1 (lit< tt)) (lit< tt) in
-    let ba = sub_holds b (holds c.args.a c.requires.0 (lit< tt)) (lit< tt) in
-    sub-fits ba (holds c.args.c c.requires.2 (lit< tt)) (lit< tt)
-
-pub nonzero_div-result : goal.nonzero_div-result
-nonzero_div-result c = let b = mul_holds (literal 4 (lit< tt)) (holds c.args.b c.requires.1 (lit< tt)) (lit< tt) in
-    let ba = sub_holds b (holds c.args.a c.requires.0 (lit< tt)) (lit< tt) in
-    let bac = sub_holds ba (holds c.args.c c.requires.2 (lit< tt)) (lit< tt) in
-    (omega arith, quot_fits 16 bac (lit< tt))
 
 pub returns : goal.returns
 returns c = let b = mul_holds (literal 4 (lit< tt)) (holds c.args.b c.requires.1 (lit< tt)) (lit< tt) in

@@ -1,27 +1,17 @@
 -- Before each turn the rows below b are cleared.
-use mathlib.Core.Path.{sym, ◌∙◌, subst}
+use mathlib.Core.Path.{◌∙◌, subst}
 use Prim.Native.Nat.{◌+◌, ◌≤◌, ◌<◌}
-use native.Mathlib.Nat.{le-add_right}
 use native.Mathlib.Omega.{arith}
 use lib.ListN.{length}
 use Rattle.surface.specs.Sheet.{functions}
 use Rattle.surface.specs.Table.{start}
 use Rattle.activity.proofs.WindowLaws.{eighths-le}
-use Rattle.coefficients.proofs.Parts.{row-end, row_next, rows_none}
+use Rattle.coefficients.proofs.Parts.{row-end, row_next}
 use Rattle.passive.specs.Cleared.{ClearedTo}
 use Rattle.passive.proofs.SliceLaws.{rows_end}
 use Rattle.passive.proofs.ClearLaws.{row-cleared}
 use Rattle.passive.proofs.clear_level.Goals.{In-loop-b}
 use Rattle.passive.proofs.clear_level.Goals as goal
-
-pub loop-b-init : goal.loop-b-init
-loop-b-init c = let first = c.start-from.ensures.0 in
-    let a = c.args in (
-      omega arith,
-      first ∙ rows_none _ c.functions-n.result,
-      c.requires.3,
-      λ before done. subst (λ k. ClearedTo k a.w a.h a.rows.now before a.out.now) (sym first) done,
-    )
 
 -- a turn's row is one of the level's, and inside the slice
 row : (c : In-loop-b)
@@ -33,9 +23,9 @@ inside : (c : In-loop-b)
 inside c =
     let loop = c.loop-b in
     let a = c.args in
-    rw loop.invariant.2
+    rw (c.loop-b.auto.out ∙ c.requires.3)
     (row-end a.w a.h a.level loop.b c.functions-n.result loop.from
-    c.functions-n.ensures.0 loop.invariant.1 (omega (arith, c.requires.2)) (row c))
+    c.functions-n.ensures.0 loop.invariant.0 (omega (arith, c.requires.2)) (row c))
 
 pub clear_row-requires : goal.clear_row-requires
 clear_row-requires c = omega (arith, c.eighths-e.ensures, eighths-le c.args.level)
@@ -44,44 +34,22 @@ pub loop-b-preserved : goal.loop-b-preserved
 loop-b-preserved c = let loop = c.loop-b in
     let a = c.args in
     let n = c.functions-n.result in (
-      omega (arith, c.loop-b-test.true),
-      row_next loop.b n (start a.w a.h a.level) loop.invariant.1,
-      c.out-1.given.1 ∙ loop.invariant.2,
+      row_next loop.b n (start a.w a.h a.level) loop.invariant.0,
       λ before done. row-cleared a.w a.h a.level loop.b n loop.from c.functions-n.ensures.0
-          loop.invariant.1 (omega (arith, c.requires.2)) (row (goal.at.loop-b-preserved c).In-loop-b) c.eighths-e.result a.rows.now
+          loop.invariant.0 (omega (arith, c.requires.2)) (row (goal.at.loop-b-preserved c).In-loop-b) c.eighths-e.result a.rows.now
           c.active_row-marks.result c.eighths-e.ensures c.active_row-marks.ensures before loop.out
-          c.clear_row.new.row loop.invariant.2 c.clear_row.ensures (loop.invariant.3 before done),
+          c.clear_row.new.row (c.loop-b.auto.out ∙ c.requires.3) c.clear_row.ensures (loop.invariant.1 before done),
     )
 
 pub returns : goal.returns
 returns c = let loop = c.loop-b in
     let a = c.args in (
-      loop.invariant.2,
+      loop.auto.out ∙ c.requires.3,
       λ before done. subst (λ k. ClearedTo k a.w a.h a.rows.now before loop.out)
           (rows_end a.w a.h a.level loop.b c.functions-n.ensures.0 c.functions-m.ensures.0
-          loop.invariant.0 c.loop-b-test.false loop.invariant.1) (loop.invariant.3 before done),
+          (omega arith) c.loop-b-test.false loop.invariant.0) (loop.invariant.1 before done),
     )
-
-pub overflow_add-to : goal.overflow_add-to
-overflow_add-to c =
-    omega (arith, inside (goal.at.overflow_add-to c).In-loop-b)
-
-pub offset_bounds-out-from : goal.offset_bounds-out-from
-offset_bounds-out-from c =
-    omega (arith, inside (goal.at.offset_bounds-out-from c).In-loop-b)
-
-pub slice_bounds-clear_row-count : goal.slice_bounds-clear_row-count
-slice_bounds-clear_row-count c =
-    le-add_right _ _
-
-pub slice_bounds-clear_row-start : goal.slice_bounds-clear_row-start
-slice_bounds-clear_row-start c =
-    le-add_right _ _
 
 pub slice_bounds-clear_row-end : goal.slice_bounds-clear_row-end
 slice_bounds-clear_row-end c =
     inside (goal.at.slice_bounds-clear_row-end c).In-loop-b
-
-pub shape_of-out : goal.shape_of-out
-shape_of-out c =
-    c.loop-b.invariant.2 ∙ sym c.requires.3

@@ -1,16 +1,12 @@
 use mathlib.Core.Path.{◌≡◌}
 use mathlib.Core.List.{List}
-use Prim.Native.Nat.{◌+◌, ◌-◌, ◌*◌, ◌≤◌}
+use Prim.Native.Nat.{◌+◌, ◌*◌}
 use lib.IntN.{ℤ}
-use lib.ListN.{length}
-use Rattle.surface.specs.Table.{start, slots}
+use Rattle.surface.specs.Table.{start}
 use Rattle.passive.specs.Cleared.{ClearedTo}
 use Rattle.passive.proofs.clear_level.Given as goal
 
 abbrev pub invariant-loop-b : goal.invariant-loop-b
 invariant-loop-b l =
-    (l.b ≤ l.m) × (l.from ≡ start l.w l.h l.level + l.b * l.n) × (length l.out ≡ slots l.w l.h)
+    (l.from ≡ start l.w l.h l.level + l.b * l.n)
     × ((before : List ℤ) → ClearedTo (start l.w l.h l.level) l.w l.h l.rows before l.initial.out → ClearedTo l.from l.w l.h l.rows before l.out)
-
-abbrev pub decreases-loop-b : goal.decreases-loop-b
-decreases-loop-b l = l.m - l.b

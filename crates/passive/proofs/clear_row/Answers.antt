@@ -1,34 +1,30 @@
--- Before each turn the places below a are cleared.
-use mathlib.Core.Path.{ap, ◌∙◌}
+-- Before each turn the places before the index are cleared.
+use mathlib.Core.Path.{sym, ap, ◌∙◌}
 use Prim.Native.Nat.{◌%◌}
 use native.Mathlib.Omega.{arith}
+use borrow.Author.Tests.{le-leb}
 use lib.Dec.{leb}
-use lib.ListN.{set}
+use lib.IntN.{pos}
+use lib.ListN.{get_or, set}
 use Rattle.passive.specs.Cleared.{kept_if}
-use Rattle.passive.proofs.RowLaws.{turn-none, turn-here, turn-set, turn-all}
+use Rattle.passive.proofs.RowLaws.{turn-none, turn-here, turn-set}
 use Rattle.passive.proofs.clear_row.Invariants.{rule}
+use Rattle.passive.proofs.clear_row.Goals.{then-m-eq0, else-m-eq0}
 use Rattle.passive.proofs.clear_row.Goals as goal
 
-pub loop-a-preserved : goal.loop-a-preserved
-loop-a-preserved c = let loop = c.loop-a in
+pub loop-number-init : goal.loop-number-init
+loop-number-init c = turn-none rule _ _ _ _
+
+pub loop-number-preserved : goal.loop-number-preserved
+loop-number-preserved c = let loop = c.loop-number in
     let args = c.args in
-    let row = args.row.now in (
-      omega arith,
-      turn-set rule args.e args.marks row row loop.a (omega arith) loop.invariant.1 c.next-m.ensures
-          (c.clear_place.ensures
-          ∙ ap (λ z. set loop.row loop.a (kept_if (leb 1 (loop.m.even % 2)) z))
-          (turn-here rule args.e args.marks row row loop.a loop.invariant.1)),
-    )
-
-pub returns : goal.returns
-returns c = let loop = c.loop-a in
-    let args = c.args in
-    turn-all rule args.e args.marks args.row.now args.row.now loop.a (omega arith) loop.invariant.1
-
-pub loop-a-init : goal.loop-a-init
-loop-a-init c =
-    (omega arith, turn-none rule _ _ _ _)
-
-pub shape_of-row : goal.shape_of-row
-shape_of-row c =
-    c.loop-a.invariant.1.size
+    let row = args.row.now in
+    let i = loop.number-index in
+    turn-set rule args.e args.marks row row i (omega arith) loop.invariant c.next-m.ensures
+    (elim c.if-m-eq0.branch [
+      | then-m-eq0 w ↦ w.row-is
+          ∙ ap (λ x. set loop.row i (kept_if (leb 1 x) (get_or row i (pos 0)))) (sym w.if-m-eq0.true)
+      | else-m-eq0 w ↦ w.row-is
+          ∙ ap (set loop.row i) (turn-here rule args.e args.marks row row i loop.invariant)
+          ∙ ap (λ t. set loop.row i (kept_if t (get_or row i (pos 0)))) (sym (le-leb 1 (loop.m.even % 2) (omega arith)))
+    ])

@@ -1,6 +1,6 @@
 -- `insert_from` meets its contract: a square away from the box, a single quarter, one that takes the level, four squares.
 use Rattle.std.proofs.Common.{arith, sym, ◌∙◌}
-use Rattle.boxes.specs.Boxes.{box_at}
+use Rattle.boxes.specs.Boxes.{box_of}
 use Rattle.regions.proofs.BuildLaws.{some, parts, less, first, second, third, fourth, written}
 use Rattle.regions.proofs.InsertLaws.{inserted-none, inserted-one, inserted-leaf, inserted-four}
 use Rattle.regions.proofs.PaintLaws.{painted-nested}
@@ -8,19 +8,19 @@ use Rattle.regions.proofs.+insert_from.Goals as goal
 
 pub returns-then-not-meets : goal.returns-then-not-meets
 returns-then-not-meets t c =
-    inserted-none (box_at c.args.corners.now) c.args.level (sym c.meets.ensures ∙ c.if-not-meets.true) c.requires.2
+    inserted-none (box_of c.args.b.now) c.args.level (sym c.meets.ensures ∙ c.if-not-meets.true) c.requires.2
     c.build_from.ensures
 
 pub returns-then-side-eq1 : goal.returns-then-side-eq1
 returns-then-side-eq1 t c =
-    inserted-one (box_at c.args.corners.now) c.args.level c.if-side-eq1.true
+    inserted-one (box_of c.args.b.now) c.args.level c.if-side-eq1.true
     (sym c.meets.ensures ∙ c.if-not-meets.false) (omega arith) (omega arith)
-    c.requires.1 c.requires.3 c.raise_quarter.ensures c.level_at-raised.ensures c.write_leaf.ensures
+    c.requires.1 c.requires.3 c.raise_square.ensures c.level_at-raised.ensures c.write_leaf.ensures
 
 pub returns-then-takes_level : goal.returns-then-takes_level
 returns-then-takes_level t c =
-    inserted-leaf (box_at c.args.corners.now) c.args.level (some c.requires.0).1 c.requires.1
-    (c.takes_level.ensures c.if-takes_level.true) c.raise_square.ensures c.write_leaf-then-takes_level.ensures
+    inserted-leaf (box_of c.args.b.now) c.args.level (some c.requires.0).1 c.requires.1
+    (c.takes_level.ensures c.if-takes_level.true) c.raise_square-then-takes_level.ensures c.write_leaf-then-takes_level.ensures
 
 pub insert_from-p1-requires : goal.insert_from-p1-requires
 insert_from-p1-requires t c =

@@ -39,7 +39,9 @@ put_sides-field-requires c = let p = c.requires.0 in
     (p.small-W, p.small-H, omega (arith, c.requires.2, size (goal.at.put_sides-field-requires c).Start))
 
 pub put_field-end-requires : goal.put_field-end-requires
-put_field-end-requires c = omega (arith, c.requires.2, size (goal.at.put_field-end-requires c).Start, c.put_sides-field.ensures.0, c.put_sides-field.auto.out)
+put_field-end-requires c =
+    let start = (goal.at.put_field-end-requires c).Start in
+    omega (arith, c.requires.2, size start, c.put_sides-field.ensures.0, c.put_sides-field.auto.out)
 
 pub put_counts-from-requires : goal.put_counts-from-requires
 put_counts-from-requires c = omega (
@@ -109,5 +111,8 @@ counted c =
 
 pub returns : goal.returns
 unfolding file_under
-returns c = put_both _ (levels (goal.at.returns c).Start) 0 c.args.out.now c.put_counts-from.result c.put_counts-from.new.out
-    c.put_levels.result c.put_levels.new.out (counted (goal.at.returns c).After-put_counts-from) c.put_levels.ensures
+returns c =
+    let start = (goal.at.returns c).Start in
+    let step = (goal.at.returns c).After-put_counts-from in
+    put_both _ (levels start) 0 c.args.out.now c.put_counts-from.result c.put_counts-from.new.out
+    c.put_levels.result c.put_levels.new.out (counted step) c.put_levels.ensures

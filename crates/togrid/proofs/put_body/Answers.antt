@@ -1,5 +1,5 @@
 -- `put_body` meets its contract: before each turn the rows over the strips below y are put.
-use mathlib.Core.Path.{◌≡◌, refl, ap, ◌∙◌, subst}
+use mathlib.Core.Path.{◌≡◌, ap, ◌∙◌, subst}
 use mathlib.Core.List.{List}
 use Prim.Native.Nat.{ℕ, ◌+◌, ◌-◌, ◌*◌, ◌≤◌}
 use native.Mathlib.Omega.{arith}
@@ -18,7 +18,7 @@ abbrev texts : Start → ℕ → List ℕ
 texts s = let a = s.args in grid_row a.w a.h a.rows.now a.numbers.now
 
 pub loop-y-init : goal.loop-y-init
-loop-y-init c = (omega arith, refl, put-none (texts (goal.at.loop-y-init c).Start) c.args.at c.args.out.now)
+loop-y-init c = put-none (texts (goal.at.loop-y-init c).Start) c.args.at c.args.out.now
 
 -- the rows that a strip adds to those before it are some of all
 fits : (s : Start) (m n to : ℕ) (out : List ℕ) → Put (joined m (texts s)) s.args.at
@@ -35,43 +35,48 @@ fits s m n to out put size h =
     )
 
 pub put_strip-to-requires : goal.put_strip-to-requires
-put_strip-to-requires c = let loop = c.loop-y in
+put_strip-to-requires c =
+    let start = (goal.at.put_strip-to-requires c).Start in
+    let loop = c.loop-y in
     let below = c.loop-y-test.true in (
       c.requires.0,
       omega (arith, below),
       omega arith,
-      fits (goal.at.put_strip-to-requires c).Start (8 * loop.y) _ loop.to loop.out loop.invariant.2 loop.invariant.1 (omega (arith, below)),
+      fits start (8 * loop.y) _ loop.to loop.out loop.invariant loop.auto.out (omega (arith, below)),
     )
 
 pub loop-y-preserved : goal.loop-y-preserved
-loop-y-preserved c = let loop = c.loop-y in
+loop-y-preserved c =
+    let start = (goal.at.loop-y-preserved c).Start in
+    let loop = c.loop-y in
     let a = c.args in
     let after = c.put_strip-to.new.out in
-    let next : 8 * loop.y + 8 ≡ 8 * (loop.y + 1) = omega arith in (
-      omega (arith, c.loop-y-test.true),
-      c.put_strip-to.auto.out ∙ loop.invariant.1,
-      subst (λ m. Put (joined m (texts (goal.at.loop-y-preserved c).Start)) a.at a.out.now c.put_strip-to.result after) next
-          (put-more (texts (goal.at.loop-y-preserved c).Start) (8 * loop.y) 8 a.at a.out.now loop.to loop.out c.put_strip-to.result
-          after loop.invariant.2 c.put_strip-to.ensures),
-    )
+    let next : 8 * loop.y + 8 ≡ 8 * (loop.y + 1) = omega arith in
+    subst (λ m. Put (joined m (texts start)) a.at a.out.now c.put_strip-to.result after) next
+    (put-more (texts start) (8 * loop.y) 8 a.at a.out.now loop.to loop.out c.put_strip-to.result
+    after loop.invariant c.put_strip-to.ensures)
 
 -- past the loop all strips but the last are put
 rest : (c : After-loop-y)
     → let a = c.args in
-    Put (joined (8 * (a.h - 1)) (texts c.before.before.before)) a.at a.out.now c.loop-y.to c.loop-y.out
+    Put (joined (8 * (a.h - 1)) (grid_row a.w a.h a.rows.now a.numbers.now)) a.at a.out.now c.loop-y.to c.loop-y.out
 rest c =
     let loop = c.loop-y in
     let a = c.args in
-    let all : loop.y ≡ a.h - 1 = omega (arith, c.loop-y-test.false) in
-    subst (λ y. Put (joined (8 * y) (texts c.before.before.before)) a.at a.out.now loop.to loop.out) all loop.invariant.2
+    let all : loop.y ≡ a.h - 1 = omega arith in
+    subst (λ y. Put (joined (8 * y) (grid_row a.w a.h a.rows.now a.numbers.now)) a.at a.out.now loop.to loop.out) all
+    loop.invariant
 
 pub put_strip-requires : goal.put_strip-requires
-put_strip-requires c = let loop = c.loop-y in
+put_strip-requires c =
+    let start = (goal.at.put_strip-requires c).Start in
+    let step = (goal.at.put_strip-requires c).After-loop-y in
+    let loop = c.loop-y in
     let last = c.args.h - 1 in (
       c.requires.0,
       omega (arith, c.requires.1),
       omega arith,
-      fits (goal.at.put_strip-requires c).Start (8 * last) _ loop.to loop.out (rest (goal.at.put_strip-requires c).After-loop-y) loop.invariant.1 (omega (arith, c.requires.1)),
+      fits start (8 * last) _ loop.to loop.out (rest step) loop.auto.out (omega (arith, c.requires.1)),
     )
 
 pub returns : goal.returns
@@ -84,7 +89,3 @@ returns c = let loop = c.loop-y in
     (ap (λ m. joined m (texts (goal.at.returns c).Start)) all ∙ grid-bytes a.w a.h a.rows.now a.numbers.now)
     (put-more (texts (goal.at.returns c).Start) (8 * last) 11 a.at a.out.now loop.to loop.out c.put_strip.result
     after (rest (goal.at.returns c).After-loop-y) c.put_strip.ensures)
-
-pub shape_of-out : goal.shape_of-out
-shape_of-out c =
-    c.put_strip.auto.out ∙ c.loop-y.invariant.1

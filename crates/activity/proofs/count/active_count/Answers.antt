@@ -24,16 +24,12 @@ front-first-requires c = let args = c.args in
     )
 
 pub loop-b-init : goal.loop-b-init
-loop-b-init c = (omega arith, omega arith, total-none _)
-
-pub active_row-marks-requires : goal.active_row-marks-requires
-active_row-marks-requires c = let pre = c.requires in
-    (pre.0, pre.1, pre.2, omega (arith, c.functions-m.ensures.0, c.loop-b-test.true), pre.3)
+loop-b-init c = (omega arith, total-none _)
 
 -- the count of a turn's row
 row-found : (c : After-count_row-found) →
     c.count_row-found.result
-    ≡ count c.functions-n.result (marked c.eighths-e.result c.active_row-marks.result)
+    ≡ count c.functions-n.result (marked c.eighths-e.result c.active_row.result)
 row-found c =
     let side = c.eighths-e in
     let level = c.args.level in
@@ -42,17 +38,16 @@ row-found c =
 
 few : (c : After-count_row-found) → c.count_row-found.result ≤ 67
 few c =
-    let p = marked c.eighths-e.result c.active_row-marks.result in
+    let p = marked c.eighths-e.result c.active_row.result in
     omega (arith, row-found c, count-le c.functions-n.result p, c.functions-n.ensures.1)
 
 pub loop-b-preserved : goal.loop-b-preserved
-loop-b-preserved c = let marks = c.active_row-marks in
+loop-b-preserved c = let marks = c.active_row in
     let loop = c.loop-b in
     let side = c.eighths-e in
     let args = c.args in (
-      omega (arith, c.loop-b-test.true),
       omega (arith, few c),
-      total-more loop.b loop.found c.count_row-found.result _ loop.invariant.2
+      total-more loop.b loop.found c.count_row-found.result _ loop.invariant.1
           (row-found c
           ∙ row_count args.w args.h args.level c.functions-n.result loop.b
           (levels_of args.rows.now) side.result marks.result c.functions-n.ensures.0 side.ensures
@@ -64,14 +59,10 @@ returns c = let loop = c.loop-b in
     let args = c.args in
     let all : loop.b ≡ c.functions-m.result = omega arith in (
       count-whole args.w args.h args.level loop.b _ (levels_of args.rows.now)
-          (all ∙ c.functions-m.ensures.0) loop.invariant.2,
+          (all ∙ c.functions-m.ensures.0) loop.invariant.1,
       omega (arith, c.functions-m.ensures.1),
     )
 
 pub overflow_add-found : goal.overflow_add-found
 overflow_add-found c =
     omega (arith, few c, c.functions-m.ensures.1)
-
-pub overflow_add-b : goal.overflow_add-b
-overflow_add-b c =
-    omega (arith, c.functions-m.ensures.1)

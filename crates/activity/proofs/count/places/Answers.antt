@@ -2,7 +2,7 @@
 use mathlib.Core.Path.{◌≡◌, ap₂, ◌∙◌}
 use Prim.Native.Nat.{◌-◌, ◌*◌, ◌/◌, ◌%◌, ◌^◌, ◌≤◌}
 use native.Mathlib.Omega.{arith}
-use lib.Pow.{pow_pos, pow_mono}
+use lib.Pow.{pow_mono}
 use Rattle.activity.proofs.CountLaws.{one_shl, spread-is}
 use Rattle.activity.proofs.count.places.Goals.{Start}
 use Rattle.activity.proofs.count.places.Goals as goal
@@ -18,14 +18,6 @@ some c = pow_mono {i = 1} {j = c.args.e} c.requires.0
 
 pub returns : goal.returns
 returns c = ap₂ (λ x y. (x - 1) / (y - 1)) (reach c) (side c) ∙ spread-is c.args.e c.args.n c.requires.0
-
-pub overflow_sub-result : goal.overflow_sub-result
-overflow_sub-result c =
-    omega (arith, reach c, pow_pos (c.args.n * c.args.e))
-
-pub overflow_sub-result-2 : goal.overflow_sub-result-2
-overflow_sub-result-2 c =
-    omega (arith, side c, some c)
 
 pub nonzero_div-result : goal.nonzero_div-result
 nonzero_div-result c =

@@ -9,6 +9,3 @@ pub region_words-requires : goal.region_words-requires
 region_words-requires c = let p = c.requires in
     let ends = window-ends c.args.h c.args.level c.args.b p.1 p.3 p.4 c.window_of.ensures in
     (p.0, p.3, ends.0, ends.1, p.2, p.3, p.5)
-
-pub returns : goal.returns
-returns c = c.region_words.ensures c.args.h c.args.b c.requires.1 c.window_of.ensures

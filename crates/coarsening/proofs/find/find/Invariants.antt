@@ -1,10 +1,10 @@
-use Prim.Native.Nat.{◌-◌, ◌*◌}
 use Rattle.rows.specs.Rows.{levels_of}
-use Rattle.coarsening.proofs.FindLaws.{Above}
+use Rattle.coarsening.proofs.FindLaws.{Above, RowAbove}
 use Rattle.coarsening.proofs.find.find.Given as goal
 
-abbrev pub invariant-loop-i : goal.invariant-loop-i
-invariant-loop-i l = Above l.level l.side l.x l.y (levels_of l.rows) l.i
+abbrev pub invariant-loop-r : goal.invariant-loop-r
+invariant-loop-r l = Above l.level l.x l.y (levels_of l.rows) l.r
 
-abbrev pub decreases-loop-i : goal.decreases-loop-i
-decreases-loop-i l = l.side * l.side - l.i
+abbrev pub invariant-loop-q : goal.invariant-loop-q
+invariant-loop-q l =
+    Above l.level l.x l.y (levels_of l.rows) l.r × RowAbove l.level l.x (levels_of l.rows) l.r l.q

@@ -5,7 +5,7 @@ use Rattle.fields.proofs.NumberLaws.{within_none, within_more, within_all, withi
 use Rattle.fields.proofs.number.within.Goals as goal
 
 pub loop-k-init : goal.loop-k-init
-loop-k-init c = let a = c.args in (omega arith, within_none a.most a.body.now)
+loop-k-init c = let a = c.args in within_none a.most a.body.now
 
 pub returns-then-not-keeps : goal.returns-then-not-keeps
 returns-then-not-keeps c = let a = c.args in
@@ -14,12 +14,8 @@ returns-then-not-keeps c = let a = c.args in
 
 pub loop-k-preserved : goal.loop-k-preserved
 loop-k-preserved c = let loop = c.loop-k in
-    let a = c.args in (
-      omega (arith, c.loop-k-test.true),
-      within_more a.most a.body.now loop.k loop.invariant.1
-          (sym c.if-not-keeps.false ∙ c.keeps.ensures),
-    )
+    let a = c.args in within_more a.most a.body.now loop.k loop.invariant (sym c.if-not-keeps.false ∙ c.keeps.ensures)
 
 pub returns : goal.returns
 returns c = let a = c.args in
-    within_all a.most a.body.now c.loop-k.k a.n (omega arith) c.loop-k.invariant.1
+    within_all a.most a.body.now c.loop-k.k a.n (omega arith) c.loop-k.invariant

@@ -1,7 +1,6 @@
 -- Before each turn the rows below b are loaded.
 use mathlib.Core.Path.{◌≡◌, sym, ap, ◌∙◌, subst}
 use Prim.Native.Nat.{◌+◌, ◌-◌, ◌*◌, ◌≤◌, ◌<◌}
-use native.Mathlib.Nat.{le-add_right}
 use native.Mathlib.Omega.{arith}
 use lib.IntN.{pos}
 use lib.ListN.{length, replicate}
@@ -9,7 +8,7 @@ use Rattle.finite.specs.Range.{table_from}
 use Rattle.surface.specs.Sheet.{functions}
 use Rattle.surface.specs.Support.{active_count}
 use Rattle.surface.specs.TableFile.{loaded}
-use Rattle.coefficients.proofs.Parts.{row_small, row_fits, part_length}
+use Rattle.coefficients.proofs.Parts.{row_fits, part_length}
 use Rattle.rows.specs.Rows.{levels_of}
 use Rattle.finite.proofs.Tests.{total-none}
 use Rattle.finite.proofs.Written.{rows_none, rows_next, rows_all}
@@ -28,7 +27,7 @@ returns-then-body-eq0 c = let a = c.args in
 pub loop-b-init : goal.loop-b-init
 loop-b-init c = let a = c.args in
     let f = loaded a.w a.h (levels_of a.rows.now) a.level a.body.now in
-    (omega arith, c.requires.4, total-none _, rows_none c.functions-n.result f a.part.now)
+    (total-none _, rows_none c.functions-n.result f a.part.now)
 
 -- a turn's row is inside the part
 inside : (c : In-loop-b)
@@ -38,26 +37,7 @@ inside c =
     let a = c.args in
     row_fits a.w a.h a.level c.loop-b.b c.functions-n.result c.functions-m.result
     c.loop-b.part c.functions-n.ensures.0 c.functions-m.ensures.0 c.loop-b-test.true
-    c.loop-b.invariant.1
-
-pub overflow_mul-from : goal.overflow_mul-from
-overflow_mul-from c = omega (arith, inside c)
-
-pub overflow_add-to : goal.overflow_add-to
-overflow_add-to c = omega (arith, inside c)
-
-pub offset_bounds-part-from : goal.offset_bounds-part-from
-offset_bounds-part-from c = omega (
-  arith,
-  (row_small c.loop-b.b c.functions-m.result c.functions-n.result
-      c.loop-b-test.true c.functions-m.ensures.1 c.functions-n.ensures.1).0,
-)
-
-pub slice_bounds-load_row-count : goal.slice_bounds-load_row-count
-slice_bounds-load_row-count c = le-add_right _ _
-
-pub slice_bounds-load_row-start : goal.slice_bounds-load_row-start
-slice_bounds-load_row-start c = le-add_right _ _
+    (c.loop-b.auto.part ∙ c.requires.4)
 
 pub slice_bounds-load_row-end : goal.slice_bounds-load_row-end
 slice_bounds-load_row-end c = inside c
@@ -73,8 +53,9 @@ load_row-next-requires c = let loop = c.loop-b in
       c.requires.2,
       within,
       c.requires.3,
-      part_length (loop.b * n) n loop.part (inside (goal.at.load_row-next-requires c).In-loop-b) ∙ c.functions-n.ensures.0,
-      loop.invariant.2,
+      part_length (loop.b * n) n loop.part (inside (goal.at.load_row-next-requires c).In-loop-b)
+          ∙ c.functions-n.ensures.0,
+      loop.invariant.0,
       omega (arith, rows-within a.w a.h a.level loop.b (levels_of a.rows.now) within, c.requires.5),
     )
 
@@ -84,19 +65,14 @@ loop-b-preserved c = let loop = c.loop-b in
     let n = c.functions-n.result in
     let f = loaded a.w a.h (levels_of a.rows.now) a.level a.body.now in
     let row = c.load_row-next.ensures in (
-      omega (arith, c.loop-b-test.true),
-      rw loop.invariant.1 at c.part-in-loop-b-1.given.1,
       row.1,
-      rows_next n loop.b (loop.b * n + n - loop.b * n) f a.part.now loop.part _ loop.invariant.3
+      rows_next n loop.b (loop.b * n + n - loop.b * n) f a.part.now loop.part _ loop.invariant.1
           (omega arith) (row.0 ∙ ap (λ n. table_from 0 n (λ i. f i loop.b)) (sym c.functions-n.ensures.0)),
     )
-
-pub shape_of-part : goal.shape_of-part
-shape_of-part c = c.loop-b.invariant.1 ∙ sym c.requires.4
 
 pub returns : goal.returns
 returns c = let loop = c.loop-b in
     let a = c.args in
     rows_all loop.b (loaded a.w a.h (levels_of a.rows.now) a.level a.body.now) a.part.now
-    loop.invariant.3 loop.invariant.0 c.loop-b-test.false c.functions-n.ensures.0 c.functions-m.ensures.0
+    loop.invariant.1 (omega arith) c.loop-b-test.false c.functions-n.ensures.0 c.functions-m.ensures.0
     c.requires.4

@@ -2,7 +2,6 @@
 use mathlib.Core.Path.{◌≡◌, refl, sym, ap, ◌∙◌, subst}
 use mathlib.Core.List.{[]}
 use Prim.Native.Nat.{ℕ, ◌+◌, ◌≤◌}
-use native.Mathlib.Nat.{le-add_right}
 use native.Mathlib.Omega.{arith}
 use lib.ListN.{length, drop}
 use Rattle.surface.specs.Fields.{holds, length_at}
@@ -12,12 +11,12 @@ use Rattle.coefficients.proofs.Parts.{level-fits, part_length}
 use Rattle.rows.specs.Rows.{levels_of}
 use Rattle.judging.proofs.JudgeLaws.{levels-none, levels-next}
 use Rattle.loading.proofs.FileLaws.{level-due, LevelThere, level-there, below_none, below_next, below_all}
-use Rattle.loading.proofs.load.load_levels.Goals.{After-length_at, After-places, In-loop-level}
+use Rattle.loading.proofs.load.load_levels.Goals.{After-places, In-loop-level}
 use Rattle.loading.proofs.load.load_levels.Goals as goal
 
 pub loop-level-init : goal.loop-level-init
 loop-level-init c = let a = c.args in
-    (omega arith, c.requires.3, ([], levels-none a.w a.h _ _, below_none a.w a.h a.numbers.now))
+    ([], levels-none a.w a.h _ _, below_none a.w a.h a.numbers.now)
 
 -- the field of a turn's level stands there
 there : (c : In-loop-level)
@@ -30,30 +29,16 @@ there c k e =
     let lev = levels_of a.rows.now in
     let loop = c.loop-level in
     let due = level-due a.w a.h lev (drop a.from a.file.now) 4 loop.level c.requires.4.0
-    loop.invariant.2.0 c.requires.4.1.0 (drop loop.at a.file.now) c.loop-level-test.true c.requires.4.1.1
-    loop.invariant.2.1 in
+    loop.invariant.0 c.requires.4.1.0 (drop loop.at a.file.now) c.loop-level-test.true c.requires.4.1.1
+    loop.invariant.1 in
     level-there a.w a.h lev loop.level a.file.now loop.at due.0 due.1 k due.2 e
-
-inside : (c : After-length_at)
-    → c.loop-level.at + 3 + c.length_at.result ≤ length
-    c.args.file.now
-inside c =
-    let a = c.args in
-    let lev = levels_of a.rows.now in
-    let loop = c.loop-level in
-    let due = level-due a.w a.h lev (drop a.from a.file.now) 4 loop.level c.requires.4.0
-    loop.invariant.2.0 c.requires.4.1.0 (drop loop.at a.file.now) c.loop-level-test.true c.requires.4.1.1
-    loop.invariant.2.1 in
-    let there = level-there a.w a.h lev loop.level a.file.now loop.at due.0 due.1 c.length_at.result due.2
-    c.length_at.ensures.0 in
-    there.inside
 
 -- its part is inside the slice
 level-part : (c : After-places)
     → c.start-first.result + c.places.result ≤ length c.loop-level.numbers
 level-part c =
     let a = c.args in
-    rw c.loop-level.invariant.1
+    rw (c.loop-level.auto.numbers ∙ c.requires.3)
     (level-fits a.w a.h c.loop-level.level c.start-first.result c.places.result
     (omega (arith, c.loop-level-test.true)) c.start-first.ensures.0 c.places.ensures.0)
 
@@ -64,39 +49,16 @@ pub length_at-requires : goal.length_at-requires
 length_at-requires c = omega (arith, (there c _ refl).inside)
 
 pub overflow_add-end : goal.overflow_add-end
-overflow_add-end c = omega (arith, inside c)
-
-pub start-first-requires : goal.start-first-requires
-start-first-requires c = let p = c.requires in
-    (p.0, p.1, omega (arith, c.loop-level-test.true))
-
-pub places-requires : goal.places-requires
-places-requires c = let p = c.requires in
-    (p.0, p.1, omega (arith, c.loop-level-test.true))
-
-pub overflow_add-last : goal.overflow_add-last
-overflow_add-last c = omega (arith, c.start-first.ensures.1, c.places.ensures.1)
-
-pub slice_bounds-load_level-count : goal.slice_bounds-load_level-count
-slice_bounds-load_level-count c = le-add_right _ _
-
-pub slice_bounds-load_level-start : goal.slice_bounds-load_level-start
-slice_bounds-load_level-start c = le-add_right _ _
+overflow_add-end c =
+    omega (arith, (there (goal.at.overflow_add-end c).In-loop-level c.length_at.result c.length_at.ensures.0).inside)
 
 pub slice_bounds-load_level-end : goal.slice_bounds-load_level-end
-slice_bounds-load_level-end c = inside (goal.at.slice_bounds-load_level-end c).After-length_at
-
-pub offset_bounds-numbers-first : goal.offset_bounds-numbers-first
-offset_bounds-numbers-first c = omega (arith, c.start-first.ensures.1)
-
-pub slice_bounds-load_level-count-in-loop-level : goal.slice_bounds-load_level-count-in-loop-level
-slice_bounds-load_level-count-in-loop-level c = le-add_right _ _
-
-pub slice_bounds-load_level-start-in-loop-level : goal.slice_bounds-load_level-start-in-loop-level
-slice_bounds-load_level-start-in-loop-level c = le-add_right _ _
+slice_bounds-load_level-end c =
+    (there (goal.at.slice_bounds-load_level-end c).In-loop-level c.length_at.result c.length_at.ensures.0).inside
 
 pub slice_bounds-load_level-end-in-loop-level : goal.slice_bounds-load_level-end-in-loop-level
-slice_bounds-load_level-end-in-loop-level c = level-part (goal.at.slice_bounds-load_level-end-in-loop-level c).After-places
+slice_bounds-load_level-end-in-loop-level c =
+    level-part (goal.at.slice_bounds-load_level-end-in-loop-level c).After-places
 
 pub load_level-requires : goal.load_level-requires
 load_level-requires c = let p = c.requires in (
@@ -104,7 +66,8 @@ load_level-requires c = let p = c.requires in (
   p.1,
   omega (arith, c.loop-level-test.true),
   p.2,
-  part_length c.start-first.result c.places.result c.loop-level.numbers (level-part (goal.at.load_level-requires c).After-places)
+  part_length c.start-first.result c.places.result c.loop-level.numbers
+      (level-part (goal.at.load_level-requires c).After-places)
       ∙ c.places.ensures.0,
   (there (goal.at.load_level-requires c).In-loop-level c.length_at.result c.length_at.ensures.0).size,
 )
@@ -114,29 +77,21 @@ loop-level-preserved c = let loop = c.loop-level in
     let a = c.args in
     let lev = levels_of a.rows.now in
     let field = there (goal.at.loop-level-preserved c).In-loop-level c.length_at.result c.length_at.ensures.0 in
-    let below = loop.invariant.2 in (
-      omega (arith, c.loop-level-test.true),
-      rw loop.invariant.1 at c.numbers-1.given.1,
-      (
-        _,
-        levels-next a.w a.h lev (drop a.from a.file.now) loop.level below.0 _
-            (drop loop.at a.file.now) _ below.1 field.field,
-        below_next a.w a.h a.numbers.now loop.level c.start-first.result c.places.result
-            loop.numbers below.0 _ _ c.start-first.ensures.0 c.places.ensures.0
-            (levels-size a.w a.h lev loop.level _ below.0 _ below.1) below.2
-            c.load_level.ensures,
-      ),
+    let below = loop.invariant in (
+      _,
+      levels-next a.w a.h lev (drop a.from a.file.now) loop.level below.0 _ (drop loop.at a.file.now) _ below.1
+          field.field,
+      below_next a.w a.h a.numbers.now loop.level c.start-first.result c.places.result loop.numbers below.0 _ _
+          c.start-first.ensures.0 c.places.ensures.0
+          (levels-size a.w a.h lev loop.level _ below.0 _ below.1) below.2 c.load_level.ensures,
     )
-
-pub shape_of-numbers : goal.shape_of-numbers
-shape_of-numbers c = c.loop-level.invariant.1 ∙ sym c.requires.3
 
 pub returns : goal.returns
 returns c = let loop = c.loop-level in
     let a = c.args in
     let rest = drop loop.at a.file.now in
     let all : loop.level ≡ 4 = omega arith in
-    let below = loop.invariant.2 in
+    let below = loop.invariant in
     let whole = below_all a.w a.h a.numbers.now loop.level loop.numbers below.0 all c.requires.3
     below.2 in (
       rest,

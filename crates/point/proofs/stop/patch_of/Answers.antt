@@ -1,6 +1,6 @@
 -- After each turn the patch is that of the level reached, and the last level reached is the one to stop at.
 use mathlib.Core.Path.{◌≡◌, ◌∙◌, subst}
-use Prim.Native.Nat.{◌+◌, ◌-◌}
+use Prim.Native.Nat.{◌-◌}
 use native.Mathlib.Omega.{arith}
 use Rattle.point.specs.Patches.{PatchAt}
 use Rattle.point.proofs.PatchLaws.{Readable, point-ready, finer-ready, stop-small}
@@ -20,20 +20,14 @@ loop-level-init c = (omega arith, c.coarsest-patch.ensures c.args.rows.now)
 
 pub finer-next-requires : goal.finer-next-requires
 finer-next-requires c = let a = c.args in
-    let level = c.loop-level.level in
-    let before : level ≡ level + 1 - 1 = omega arith in
-    let n = point-ready a.w a.h a.rows.now a.numbers.now a.u a.v (given (goal.at.finer-next-requires c).Start) in
+    let g = given (goal.at.finer-next-requires c).Start in
+    let n = point-ready a.w a.h a.rows.now a.numbers.now a.u a.v g in
     let three = stop-small a.w a.h a.u a.v a.rows.now n.0 n.2 in
-    finer-ready a.w a.h a.rows.now a.numbers.now a.u a.v (given (goal.at.finer-next-requires c).Start) (level + 1)
-    c.loop-level.patch (omega arith) (omega (arith, three, c.requires.3))
-    (subst (λ L. PatchAt a.w a.h a.rows.now a.numbers.now a.u a.v L c.loop-level.patch) before
-    c.loop-level.invariant.1)
-
-pub loop-level-preserved : goal.loop-level-preserved
-loop-level-preserved c = (omega arith, c.finer-next.ensures)
+    finer-ready a.w a.h a.rows.now a.numbers.now a.u a.v g c.loop-level.level c.loop-level.patch (omega arith)
+    (omega (arith, three, c.requires.3, c.loop-level-test.true)) c.loop-level.invariant.1
 
 pub returns : goal.returns
 returns c = let a = c.args in
-    let last : c.loop-level.level ≡ a.stop = omega arith in
+    let last : c.loop-level.level - 1 ≡ a.stop = omega arith in
     subst (λ L. PatchAt a.w a.h a.rows.now a.numbers.now a.u a.v L c.loop-level.patch)
     (last ∙ c.requires.3) c.loop-level.invariant.1

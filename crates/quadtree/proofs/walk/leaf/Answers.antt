@@ -2,7 +2,6 @@
 use mathlib.Core.Path.{◌≡◌, sym, ◌∙◌}
 use mathlib.Core.Bool.{true}
 use Prim.Native.Nat.{ℕ, ◌^◌, ◌≤◌}
-use native.Mathlib.Omega.{arith}
 use lib.ListN.{get_or}
 use Rattle.surface.specs.Quadtree.{leaf, well_formed}
 use Rattle.quadtree.proofs.WalkLaws.{form-low, judged-past, judged-bad, judged-leaf, short, side-some}
@@ -27,21 +26,6 @@ returns-then-t-at c = judged-past (short _ c.well_formed.0.1) c.requires.3 c.if-
 pub returns-then-not-leaf_formed : goal.returns-then-not-leaf_formed
 returns-then-not-leaf_formed c = judged-bad (short _ c.well_formed.0.1) c.requires.3 c.if-t-at.false c.requires.4
     (λ k p. sym c.if-not-leaf_formed.true ∙ c.leaf_formed.ensures k p)
-
-pub overflow_cast-b : goal.overflow_cast-b
-overflow_cast-b c = omega (arith, low (goal.at.overflow_cast-b c).Else-not-leaf_formed)
-
-pub raise_quarter-requires : goal.raise_quarter-requires
-raise_quarter-requires c = let p = (start (goal.at.raise_quarter-requires c).Else-not-leaf_formed).requires in
-    (omega (arith, p, c.if-side-eq1.true), omega (arith, p, c.if-side-eq1.true), low (goal.at.raise_quarter-requires c).Else-not-leaf_formed, p.3)
-
-pub returns-then-side-eq1 : goal.returns-then-side-eq1
-returns-then-side-eq1 c = let s = start (goal.at.returns-then-side-eq1 c).Else-not-leaf_formed in
-    judged-leaf (short _ s.well_formed.0.1) s.requires.3 c.if-t-at.false s.requires.4 (formed (goal.at.returns-then-side-eq1 c).Else-not-leaf_formed)
-    (rw c.if-side-eq1.true c.raise_quarter.ensures)
-
-pub overflow_cast-b-2 : goal.overflow_cast-b-2
-overflow_cast-b-2 c = omega (arith, low (goal.at.overflow_cast-b-2 c).Else-not-leaf_formed)
 
 pub raise_square-requires : goal.raise_square-requires
 raise_square-requires c = let p = (start (goal.at.raise_square-requires c).Else-not-leaf_formed).requires in

@@ -27,26 +27,6 @@ split c =
 single : (x y : ℕ) → x + 1 ≤ 32 → y + 1 ≤ 32 → Square x y 1
 single x y u v = record { height = 0; power = refl; in_u = u; in_v = v }
 
-pub leaf-p1-requires : goal.leaf-p1-requires
-leaf-p1-requires c = let p = c.requires in
-    (single _ _ (omega (arith, p)) (omega (arith, p)), p.2, p.3, p.4, λ four. refl)
-
-pub leaf-p2-requires : goal.leaf-p2-requires
-leaf-p2-requires c = let p = c.requires in
-    (single _ _ (omega (arith, p)) (omega (arith, p)), p.2, p.3, c.leaf-p1.ensures.size, λ four. refl)
-
-pub leaf-p3-requires : goal.leaf-p3-requires
-leaf-p3-requires c = let p = c.requires in
-    (single _ _ (omega (arith, p)) (omega (arith, p)), p.2, p.3, c.leaf-p2.ensures.size, λ four. refl)
-
-pub leaf-p4-requires : goal.leaf-p4-requires
-leaf-p4-requires c = let p = c.requires in
-    (single _ _ (omega (arith, p)) (omega (arith, p)), p.2, p.3, c.leaf-p3.ensures.size, λ four. refl)
-
-pub equal_leaves-requires : goal.equal_leaves-requires
-equal_leaves-requires c = let s = start c in
-    (omega (arith, s.requires.5), λ five. c.leaf-p4.ensures.inside (omega (arith, s.requires.5, s.well_formed.0.1)))
-
 pub returns-then-equal_leaves : goal.returns-then-equal_leaves
 returns-then-equal_leaves c = split (goal.at.returns-then-equal_leaves c).After-leaf-p4 true (sym c.equal_leaves.ensures ∙ c.if-equal_leaves.true)
 

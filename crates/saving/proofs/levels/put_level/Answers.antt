@@ -24,13 +24,11 @@ size s =
     ∙ sym (level-length a.w a.h (levels_of a.rows.now) (in_part a.w a.part.now) a.level)
 
 pub returns-then-count-eq0 : goal.returns-then-count-eq0
-returns-then-count-eq0 c = let a = c.args in
-    put-empty (16 + a.level) (5 * a.count) (body (goal.at.returns-then-count-eq0 c).Start) a.at a.out.now c.put_head-body.result
-    c.put_head-body.new.out (size (goal.at.returns-then-count-eq0 c).Start) (omega (arith, c.if-count-eq0.true)) c.put_head-body.ensures
-
-pub put_body-requires : goal.put_body-requires
-put_body-requires c = let p = c.requires in
-    (p.0, p.1, p.2, p.3, p.4, p.5, omega (arith, p.8, c.put_head-body.ensures.0, c.put_head-body.auto.out))
+returns-then-count-eq0 c =
+    let start = (goal.at.returns-then-count-eq0 c).Start in
+    let a = c.args in
+    put-empty (16 + a.level) (5 * a.count) (body start) a.at a.out.now c.put_head-body.result
+    c.put_head-body.new.out (size start) (omega (arith, c.if-count-eq0.true)) c.put_head-body.ensures
 
 pub returns : goal.returns
 returns c = let a = c.args in

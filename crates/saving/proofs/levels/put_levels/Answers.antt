@@ -1,16 +1,13 @@
 -- `put_levels` meets its contract: before each turn the fields of the levels below it are put.
-use mathlib.Core.Path.{◌≡◌, refl, ap, ◌∙◌, subst}
+use mathlib.Core.Path.{◌≡◌, ap, ◌∙◌}
 use mathlib.Core.List.{List}
 use Prim.Native.Nat.{ℕ, ◌+◌, ◌≤◌}
-use native.Mathlib.Nat.{le-add_right}
 use native.Mathlib.Omega.{arith}
 use lib.ListN.{length}
-use Rattle.finite.specs.Range.{joined}
 use Rattle.finite.proofs.Joined.{joined-through}
 use Rattle.surface.specs.Table.{coefficients}
 use Rattle.rows.specs.Rows.{levels_of}
 use Rattle.coefficients.proofs.Parts.{part, part_length, level-fits}
-use Rattle.fields.specs.Put.{Put}
 use Rattle.fields.proofs.PutLaws.{put-none, put_next}
 use Rattle.saving.specs.Saved.{in_part, level_under}
 use Rattle.saving.proofs.BodyLaws.{part-under, part-spelt}
@@ -24,7 +21,7 @@ texts s =
     level_under a.w a.h (levels_of a.rows.now) (coefficients a.w a.h a.numbers.now)
 
 pub loop-level-init : goal.loop-level-init
-loop-level-init c = (omega arith, refl, put-none (texts (goal.at.loop-level-init c).Start) c.args.at c.args.out.now)
+loop-level-init c = put-none (texts (goal.at.loop-level-init c).Start) c.args.at c.args.out.now
 
 -- a turn's level stands in the slice
 inside : (c : After-places)
@@ -40,14 +37,17 @@ same : (c : After-places)
     → let a = c.args in
     level_under a.w a.h (levels_of a.rows.now)
     (in_part a.w (part c.start-first.result c.places.result a.numbers.now)) c.loop-level.level
-    ≡ texts c.before.before.before.before.before c.loop-level.level
+    ≡ level_under a.w a.h (levels_of a.rows.now) (coefficients a.w a.h a.numbers.now) c.loop-level.level
 same c =
     let a = c.args in
     part-under a.w a.h c.loop-level.level c.start-first.result c.places.result (levels_of a.rows.now)
     a.numbers.now c.start-first.ensures.0 c.places.ensures.0
 
 pub put_level-to-requires : goal.put_level-to-requires
-put_level-to-requires c = let loop = c.loop-level in
+put_level-to-requires c =
+    let step = (goal.at.put_level-to-requires c).After-places in
+    let start = (goal.at.put_level-to-requires c).Start in
+    let loop = c.loop-level in
     let a = c.args in
     let p = c.requires in
     let taken = c.loop-level-test.true in (
@@ -55,7 +55,7 @@ put_level-to-requires c = let loop = c.loop-level in
       p.1,
       omega (arith, taken),
       p.2,
-      part_length c.start-first.result c.places.result a.numbers.now (inside (goal.at.put_level-to-requires c).After-places)
+      part_length c.start-first.result c.places.result a.numbers.now (inside step)
           ∙ c.places.ensures.0,
       part-spelt a.w a.h loop.level c.start-first.result c.places.result (levels_of a.rows.now)
           a.numbers.now c.start-first.ensures.0 c.places.ensures.0 (p.4 loop.level taken),
@@ -64,48 +64,19 @@ put_level-to-requires c = let loop = c.loop-level in
       omega (
         arith,
         p.6,
-        loop.invariant.1,
-        loop.invariant.2.0,
-        joined-through (texts (goal.at.put_level-to-requires c).Start) 4 loop.level taken,
-        ap length (same (goal.at.put_level-to-requires c).After-places),
+        loop.auto.out,
+        loop.invariant.0,
+        joined-through (texts start) 4 loop.level taken,
+        ap length (same step),
       ),
     )
 
 pub loop-level-preserved : goal.loop-level-preserved
 loop-level-preserved c = let loop = c.loop-level in
-    let a = c.args in (
-      omega (arith, c.loop-level-test.true),
-      c.put_level-to.auto.out ∙ loop.invariant.1,
-      put_next loop.level (texts (goal.at.loop-level-preserved c).Start) _ a.at a.out.now loop.to loop.out c.put_level-to.result
-          c.put_level-to.new.out loop.invariant.2 c.put_level-to.ensures (same (goal.at.loop-level-preserved c).After-places),
-    )
-
-pub returns : goal.returns
-returns c = let loop = c.loop-level in
     let a = c.args in
-    let all : loop.level ≡ 4 = omega (arith, c.loop-level-test.false) in
-    subst (λ n. Put (joined n (texts (goal.at.returns c).Start)) a.at a.out.now loop.to loop.out) all loop.invariant.2
-
-pub overflow_add-last : goal.overflow_add-last
-overflow_add-last c =
-    omega (arith, c.start-first.ensures.1, c.places.ensures.1)
-
-pub offset_bounds-numbers-first : goal.offset_bounds-numbers-first
-offset_bounds-numbers-first c =
-    omega (arith, c.start-first.ensures.1)
-
-pub slice_bounds-put_level-count : goal.slice_bounds-put_level-count
-slice_bounds-put_level-count c =
-    le-add_right _ _
-
-pub slice_bounds-put_level-start : goal.slice_bounds-put_level-start
-slice_bounds-put_level-start c =
-    le-add_right _ _
+    put_next loop.level (texts (goal.at.loop-level-preserved c).Start) _ a.at a.out.now loop.to loop.out
+    c.put_level-to.result c.put_level-to.new.out loop.invariant c.put_level-to.ensures
+    (same (goal.at.loop-level-preserved c).After-places)
 
 pub slice_bounds-put_level-end : goal.slice_bounds-put_level-end
-slice_bounds-put_level-end c =
-    inside c
-
-pub shape_of-out : goal.shape_of-out
-shape_of-out c =
-    c.loop-level.invariant.1
+slice_bounds-put_level-end c = inside c

@@ -1,6 +1,3 @@
-use mathlib.Core.Path.{◌≡◌}
-use Prim.Native.Nat.{◌-◌, ◌≤◌}
-use lib.ListN.{length}
 use Rattle.finite.specs.Range.{joined}
 use Rattle.surface.specs.Table.{coefficients}
 use Rattle.rows.specs.Rows.{levels_of}
@@ -10,9 +7,5 @@ use Rattle.saving.proofs.levels.put_levels.Given as goal
 
 abbrev pub invariant-loop-level : goal.invariant-loop-level
 invariant-loop-level l =
-    (l.level ≤ 4)
-    × (length l.out ≡ length l.initial.out)
-    × Put (joined l.level (level_under l.w l.h (levels_of l.rows) (coefficients l.w l.h l.numbers))) l.at l.initial.out l.to l.out
-
-abbrev pub decreases-loop-level : goal.decreases-loop-level
-decreases-loop-level l = 4 - l.level
+    Put (joined l.level (level_under l.w l.h (levels_of l.rows) (coefficients l.w l.h l.numbers))) l.at l.initial.out
+    l.to l.out

@@ -1,7 +1,7 @@
 -- `carried_row` meets its contract: the row of the next level with its own part of the coefficients.
 use mathlib.Core.Path.{◌≡◌, refl}
 use Prim.Native.Nat.{◌+◌, ◌*◌, ◌≤◌}
-use native.Mathlib.Nat.{mul-le-mul_right, le-add_right}
+use native.Mathlib.Nat.{mul-le-mul_right}
 use native.Mathlib.Omega.{arith}
 use lib.ListN.{length, length-take, length-drop}
 use Rattle.surface.specs.Sheet.{functions}
@@ -31,7 +31,9 @@ inside c =
     (begins c) (omega (arith, c.requires.1)) c.requires.2)
 
 pub next_row-requires : goal.next_row-requires
-next_row-requires c = let a = c.args in
+next_row-requires c =
+    let step = (goal.at.next_row-requires c).After-start in
+    let a = c.args in
     let p = c.requires in
     let w = p.5.1 in (
       p.0.small-W,
@@ -43,7 +45,7 @@ next_row-requires c = let a = c.args in
       window-within a.w a.h a.rows.now a.numbers.now a.level a.first p.5.0 a.coarse.now
           p.1 p.0.fit w,
       p.4,
-      simp (length-take, length-drop) (omega (arith, inside (goal.at.next_row-requires c).After-start, c.functions-n.ensures.0)),
+      simp (length-take, length-drop) (omega (arith, inside step, c.functions-n.ensures.0)),
       refl,
       zeros-small,
       p.0.nested,
@@ -55,30 +57,6 @@ returns c = let a = c.args in
     row-carried a.w a.h a.rows.now a.numbers.now a.level a.b a.first c.requires.5.0
     (c.start.result + a.b * n) n a.coarse.now c.next_row.new.row c.functions-n.ensures.0
     (begins (goal.at.returns c).After-start) c.requires.5.2 c.requires.5.1 c.next_row.ensures.0
-
-pub overflow_mul-from : goal.overflow_mul-from
-overflow_mul-from c =
-    omega (arith, inside c)
-
-pub overflow_add-from : goal.overflow_add-from
-overflow_add-from c =
-    omega (arith, inside c)
-
-pub overflow_add-to : goal.overflow_add-to
-overflow_add-to c =
-    omega (arith, inside c)
-
-pub offset_bounds-numbers-from : goal.offset_bounds-numbers-from
-offset_bounds-numbers-from c =
-    omega (arith, inside (goal.at.offset_bounds-numbers-from c).After-start)
-
-pub slice_bounds-next_row-count : goal.slice_bounds-next_row-count
-slice_bounds-next_row-count c =
-    le-add_right _ _
-
-pub slice_bounds-next_row-start : goal.slice_bounds-next_row-start
-slice_bounds-next_row-start c =
-    le-add_right _ _
 
 pub slice_bounds-next_row-end : goal.slice_bounds-next_row-end
 slice_bounds-next_row-end c =

@@ -1,5 +1,5 @@
 use mathlib.Core.Path.{◌≡◌}
-use Prim.Native.Nat.{◌+◌, ◌-◌, ◌*◌, ◌≤◌}
+use Prim.Native.Nat.{◌+◌, ◌*◌}
 use lib.ListN.{length}
 use Rattle.finite.specs.Range.{joined}
 use Rattle.fields.specs.Put.{Put}
@@ -8,8 +8,5 @@ use Rattle.togrid.proofs.strip.put_rows.Given as goal
 
 abbrev pub invariant-loop-i : goal.invariant-loop-i
 invariant-loop-i l =
-    (l.i ≤ l.count) × (length l.row ≡ 67) × (length l.out ≡ length l.initial.out)
+    (length l.row ≡ 67)
     × Put (joined l.i (λ i. grid_row l.w l.h l.rows l.numbers (2 * l.first + i))) l.at l.initial.out l.to l.out
-
-abbrev pub decreases-loop-i : goal.decreases-loop-i
-decreases-loop-i l = l.count - l.i
