@@ -43,8 +43,8 @@ fn outside(n: usize, low: usize, high: usize) -> bool
     n < low || high < n
 }
 
-// The field due at a position, by its tag and the least and the greatest length that it may have: the position after its
-// body.
+// The field due at a position, by its tag and the least and the greatest length that it may have: the position after
+// its body.
 pub fn field_at(file: &[u8], at: usize, tag: u8, low: usize, high: usize) -> Result<usize, Refusal>
     requires { at ≤ length file.now }
     ensures { (part_at result file.now (body_at file.now at)

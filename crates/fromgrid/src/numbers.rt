@@ -21,7 +21,8 @@ pub fn read_row(row: &mut [i64], body: &[u8], fine: &[i64], level: usize, from: 
     }
 }
 
-// Whether two rows are the same.
+// Whether two rows are the same. A loop, since `==` of slices may be compiled to a call of memcmp, which the archive may
+// not make.
 pub fn same(a: &[i64], b: &[i64]) -> bool
     requires { length a.now ≡ length b.now }
     ensures { (result ≡ true → (k : ℕ) → k < length a.now

@@ -2,10 +2,36 @@
 // another.
 #![tactic(auto)]
 
+ghost use Rattle.std.specs.Prelude.{◌≡◌, List, ℕ, ℤ, length};
+ghost use Rattle.surface.specs.Calls.{refinement_cause};
+ghost use Rattle.surface.specs.Enquiry.{slip_of};
+ghost use Rattle.rows.specs.Rows.{level_rows};
+ghost use Rattle.boxes.specs.Boxes.{box_of};
+ghost use Rattle.regions.specs.Regions.{Inserted};
 ghost use Rattle.demands.specs.Promises.{EnquirePromise, CommitPromise};
 ghost use Rattle.answers.specs.Answers.{slip_told};
+ghost use Rattle.insertion.specs.Inserting.{Insertable};
 
 use answers::{Refusal, Slip};
+
+// Inserts a box that may be inserted into the regions of a table, writes the tree of the new ones at the front of a
+// buffer, and returns the slip.
+fn insert(
+    w: usize,
+    h: usize,
+    rows: &mut [u32; 96],
+    b: boxes::Box,
+    level: usize,
+    built: &mut [u8; 1365],
+) -> Slip
+    requires { Insertable w h (box_of b) level rows.old × (length built.old ≡ 1365) }
+    ensures { ((t : List ℕ) (cs : List ℤ) → rows.old ≡ level_rows t
+        → 0 ≡ refinement_cause w h t cs (box_of b) level → slip_told result ≡ slip_of w h t (box_of b) level)
+        × Inserted (box_of b) level rows.old rows.new result.length built.new }
+{
+    let n = regions::insert(rows, b, level, built);
+    slip::slip_of(w, h, rows, &built[0..n], b, level)
+}
 
 // What the insertion of the box with corners (u0, v0) and (u1, v1) at a level would give, as a slip.
 pub fn enquire(
@@ -26,8 +52,7 @@ pub fn enquire(
     let b = boxes::Box { u0, v0, u1, v1 };
     refinement::refinement_cause(w, h, tree, numbers, b, level, &mut rows)?;
     let mut built = [0u8; 1365];
-    let n = regions::insert(&mut rows, b, level, &mut built);
-    let slip = slip::slip_of(w, h, &rows, &built[0..n], b, level);
+    let slip = insert(w, h, &mut rows, b, level, &mut built);
     Ok(slip)
 }
 
@@ -61,8 +86,7 @@ pub fn commit(
     refinement::refinement_cause(w, h, tree, numbers, b, level, &mut rows)?;
     let mut new = rows;
     let mut built = [0u8; 1365];
-    let n = regions::insert(&mut new, b, level, &mut built);
-    let own = slip::slip_of(w, h, &new, &built[0..n], b, level);
+    let own = insert(w, h, &mut new, b, level, &mut built);
     if !slip::same(slip, own) {
         return Err(Refusal::Slip);
     }
@@ -72,7 +96,7 @@ pub fn commit(
         numbers,
         &rows,
         &new,
-        &built[0..n],
+        &built[0..own.length],
         tree_out,
         numbers_out,
     )

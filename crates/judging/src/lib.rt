@@ -56,8 +56,8 @@ fn counts_agree(body: &[u8], counts: [usize; 4]) -> bool
     requires { length body.now ≡ 8 }
     ensures { result ≡ counts_agree (count_of counts) body.now }
 {
-    for level in 0..tablefile::LEVELS {
-        if fields::two_bytes(body, 2 * level) != counts[level] {
+    for (level, count) in counts.iter().enumerate() {
+        if fields::two_bytes(body, 2 * level) != *count {
             return false;
         }
     }
@@ -108,8 +108,8 @@ pub fn levels_judge(file: &[u8], from: usize, counts: [usize; 4]) -> Result<usiz
         → judged_as result file.now (level_fields W H lev 4 (drop from file.now)) }
 {
     let mut at = from;
-    for level in 0..tablefile::LEVELS {
-        at = level_judge(file, at, counts[level], level)?;
+    for (level, count) in counts.iter().enumerate() {
+        at = level_judge(file, at, *count, level)?;
     }
     Ok(at)
 }

@@ -1,4 +1,5 @@
-// A call's answer for another language: a code, 0 or the number of the refusal, and a value written where it is to stand.
+// A call's answer for another language: a code, 0 or the number of the refusal, and a value written where it is to
+// stand.
 ghost use Rattle.std.specs.Prelude.{◌≡◌};
 ghost use Rattle.answers.specs.Answers.{value_answer};
 ghost use Rattle.answers.specs.Refusals.{cause_of};

@@ -11,8 +11,7 @@ pub fn cell_of(n: usize, level: usize, u: usize) -> usize
 {
     let steps = 16 * activity::eighths(level);
     let last = coefficients::functions(n, level) - 4;
-    let c = u / steps;
-    if c < last { c } else { last }
+    (u / steps).min(last)
 }
 
 // The steps of a cell of a level, and how many of them a point is into its cell along u and along v.

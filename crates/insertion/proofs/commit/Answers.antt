@@ -16,8 +16,8 @@ use Rattle.rows.specs.Rows.{level_rows}
 use Rattle.answers.specs.declared.Refusal as Causes
 use Rattle.answers.specs.Answers.{slip_told, value_answer}
 use Rattle.answers.proofs.AnswerLaws.{number-positive, table-refused}
-use Rattle.insertion.proofs.NewTableLaws.{in-sheet, old-nested, old-size, carried-fit}
-use Rattle.insertion.proofs.NewTableLaws.{refined-tree, refined-formed, refined-levels, refined-commit}
+use Rattle.insertion.proofs.NewTableLaws.{old-nested, carried-fit}
+use Rattle.insertion.proofs.NewTableLaws.{refined-commit}
 use Rattle.insertion.proofs.commit.Goals.{After-same, In_ok-refinement_cause, Start}
 use Rattle.insertion.proofs.commit.Goals as goal
 
@@ -51,42 +51,21 @@ fit c =
     let fits = accepted a.w a.h a.tree.now a.numbers.now s.box s.level (sym (none c)) in
     (sound a.w a.h a.tree.now a.numbers.now fits.0, fits.3)
 
-pub insert-n-requires : goal.insert-n-requires
-insert-n-requires c = let t = c.args.tree.now in
-    (omega (arith, (fit (goal.at.insert-n-requires c).In_ok-refinement_cause).1), old-size t _ (painted (goal.at.insert-n-requires c).In_ok-refinement_cause), old-nested t _ (painted (goal.at.insert-n-requires c).In_ok-refinement_cause), refl)
-
-pub slip_of-own-requires : goal.slip_of-own-requires
-slip_of-own-requires c = let a = c.args in
-    let s = slip_told a.slip in
-    let n = sides (fit (goal.at.slip_of-own-requires c).In_ok-refinement_cause).0 in
-    let t = a.tree.now in
-    let out = c.insert-n.ensures in
-    let whole = ap (λ k. take k c.insert-n.new.out) (sub-zero c.insert-n.result) in (
-      n.1,
-      n.3,
-      out.nested,
-      refined-formed t _ (painted (goal.at.slip_of-own-requires c).In_ok-refinement_cause) s.box s.level out a.w a.h n.1 n.3 a.numbers.now
-          (none (goal.at.slip_of-own-requires c).In_ok-refinement_cause) _ whole,
-      refined-levels t _ (painted (goal.at.slip_of-own-requires c).In_ok-refinement_cause) s.box s.level out a.w a.h n.1 n.3 a.numbers.now
-          (none (goal.at.slip_of-own-requires c).In_ok-refinement_cause) _ whole,
-      in-sheet a.w a.h t a.numbers.now s.box s.level (none (goal.at.slip_of-own-requires c).In_ok-refinement_cause),
-    )
+pub insert-own-requires : goal.insert-own-requires
+insert-own-requires c =
+    let a = c.args in
+    ((a.tree.now, (a.numbers.now, c.in_ok-refinement_cause.ensures.1 refl, c.in_ok-refinement_cause.ensures.0)), refl)
 
 -- the slip is compared with the one that the table gives
-compared : (c : After-same) → Sound c.args.w c.args.h c.args.tree.now c.args.numbers.now
+compared : (c : After-same)
     → let a = c.args in
     let s = slip_told a.slip in
     c.same.result ≡ same_slip s (slip_of a.w a.h a.tree.now s.box s.level)
-compared c table =
+compared c =
     let a = c.args in
-    let s = slip_told a.slip in
-    let n = sides table in
+    let none = c.in_ok-refinement_cause.ensures in
     c.same.ensures
-    ∙ ap (same_slip s)
-    (c.slip_of-own.ensures a.tree.now
-    (sym (refined-tree a.tree.now _ (c.in_ok-refinement_cause.ensures.1 refl) s.box s.level c.insert-n.ensures a.w
-    a.h n.1 n.3 a.numbers.now _
-    (ap (λ k. take k c.insert-n.new.out) (sub-zero c.insert-n.result)))))
+    ∙ ap (same_slip (slip_told a.slip)) (c.insert-own.ensures.0 a.tree.now a.numbers.now (none.1 refl) none.0)
 
 pub returns-then-not-same : goal.returns-then-not-same
 unfolding commit_outcome commit_cause
@@ -94,7 +73,7 @@ returns-then-not-same c =
     let a = c.args in
     let s = slip_told a.slip in
     let at = goal.at.returns-then-not-same c in
-    let other = sym c.if-not-same.true ∙ compared at.After-same (fit at.In_ok-refinement_cause).0 in
+    let other = sym c.if-not-same.true ∙ compared at.After-same in
     table-refused Causes.TheVariants.Slip
     (past (none at.In_ok-refinement_cause) (first (ap (λ b. cause 19 (not b)) other) (λ z. absurd (omega arith)) _))
     _ (new_tree a.tree.now s.box s.level) _ _ _
@@ -108,7 +87,7 @@ write_refined-requires c = let a = c.args in
       n.3,
       table.size,
       old-nested t _ (painted (goal.at.write_refined-requires c).In_ok-refinement_cause),
-      c.insert-n.ensures.nested,
+      c.insert-own.ensures.1.nested,
       carried-fit t _ (painted (goal.at.write_refined-requires c).In_ok-refinement_cause) a.w a.h n.1 n.3 a.numbers.now table,
     )
 
@@ -119,8 +98,8 @@ returns c = let a = c.args in
     subst
     (λ o. TableMeets o (value_answer c.write_refined.result) c.write_refined.new.tree_out
     c.write_refined.new.numbers_out)
-    (refined-commit a.tree.now _ (painted (goal.at.returns c).In_ok-refinement_cause) s c.insert-n.ensures a.w a.h n.1 n.3
+    (refined-commit a.tree.now _ (painted (goal.at.returns c).In_ok-refinement_cause) s c.insert-own.ensures.1 a.w a.h n.1 n.3
     a.numbers.now (none (goal.at.returns c).In_ok-refinement_cause)
-    (ap (λ b. cause 19 (not b)) (sym c.if-not-same.false ∙ compared (goal.at.returns c).After-same (fit (goal.at.returns c).In_ok-refinement_cause).0)) _ a.tree_out.now
-    a.numbers_out.now (ap (λ k. take k c.insert-n.new.out) (sub-zero c.insert-n.result)))
+    (ap (λ b. cause 19 (not b)) (sym c.if-not-same.false ∙ compared (goal.at.returns c).After-same)) _ a.tree_out.now
+    a.numbers_out.now (ap (λ k. take k c.insert-own.new.built) (sub-zero c.insert-own.result.length)))
     c.write_refined.ensures

@@ -6,11 +6,11 @@ use Rattle.judging.specs.Judged.{count_of}
 use Rattle.judging.proofs.CountsLaws.{agree-all, agree-lost}
 use Rattle.judging.proofs.counts_agree.Goals as goal
 
-pub returns-then-two_bytes-counts : goal.returns-then-two_bytes-counts
-returns-then-two_bytes-counts c = let a = c.args in
+pub returns-then-two_bytes-count : goal.returns-then-two_bytes-count
+returns-then-two_bytes-count c = let a = c.args in
     let read : c.two_bytes.result ≡ two_bytes_at a.body.now c.loop-level.level = omega (arith, c.two_bytes.ensures.0) in
     agree-lost (count_of a.counts) a.body.now c.loop-level.level c.loop-level-test.true
-    (λ e. c.if-two_bytes-counts.true (read ∙ e))
+    (λ e. c.if-two_bytes-count.true (read ∙ e))
 
 pub returns : goal.returns
 returns c = let a = c.args in

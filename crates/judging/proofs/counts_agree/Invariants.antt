@@ -5,4 +5,4 @@ use Rattle.judging.proofs.CountsLaws.{Agrees}
 use Rattle.judging.proofs.counts_agree.Given as goal
 
 abbrev pub invariant-loop-level : goal.invariant-loop-level
-invariant-loop-level l = (L : ℕ) → L < l.level → Agrees (count_of l.counts) l.body L
+invariant-loop-level l = (L : ℕ) → L < l.level → Agrees (count_of l.fn.counts) l.body L

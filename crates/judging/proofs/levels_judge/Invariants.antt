@@ -9,5 +9,5 @@ use Rattle.judging.proofs.levels_judge.Given as goal
 abbrev pub invariant-loop-level : goal.invariant-loop-level
 invariant-loop-level l =
     (l.at ≤ length l.file)
-    × ((W H : ℕ) (lev : ℕ → ℕ → ℕ) → Counted W H lev l.counts
+    × ((W H : ℕ) (lev : ℕ → ℕ → ℕ) → Counted W H lev l.fn.counts
     → ends_at l.file l.at (level_fields W H lev l.level (drop l.from l.file)))
