@@ -1,17 +1,9 @@
 -- The sizes of the levels, level by level.
 use mathlib.Core.Path.{◌≡◌, refl, ap}
-use Prim.Native.Nat.{ℕ, ◌+◌, ◌*◌, ◌^◌, ◌≤◌, ◌<◌}
+use Prim.Native.Nat.{ℕ, ◌+◌, ◌^◌, ◌≤◌, ◌<◌}
 use native.Mathlib.Nat.{mul-le-mul_left, pow-le-pow_right}
 use native.Mathlib.Omega.{arith}
-use lib.IntN.{pos}
-use Rattle.surface.specs.Sheet.{functions}
 use Rattle.surface.specs.Table.{places, start, limit}
-
-pub functions-at : (n L j : ℕ) → L ≡ j → functions n L ≡ n * 2 ^ j + 3
-functions-at n L j e = ap (λ k. functions n k) e
-
-pub limit-at : (L j : ℕ) → L ≡ j → pos (limit L) ≡ pos (32000 * 64 ^ j)
-limit-at L j e = ap (λ k. pos (limit k)) e
 
 pub start-at : (W H L j : ℕ) → L ≡ j → start W H L ≡ start W H j
 start-at W H L j e = ap (λ k. start W H k) e

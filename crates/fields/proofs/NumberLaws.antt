@@ -1,8 +1,8 @@
 -- Laws of the numbers of a body: two's complement, and the test of their limits.
-use mathlib.Core.Path.{◌≡◌, refl, sym, ap, ◌∙◌}
+use mathlib.Core.Path.{◌≡◌, refl, ap, ◌∙◌}
 use mathlib.Core.Bool.{Bool, true, false}
 use mathlib.Core.List.{List}
-use Prim.Native.Nat.{ℕ, suc, ◌+◌, ◌-◌, ◌*◌, ◌/◌, ◌%◌, ◌≤◌, ◌<◌}
+use Prim.Native.Nat.{ℕ, suc, ◌+◌, ◌-◌, ◌*◌, ◌%◌, ◌≤◌, ◌<◌}
 use native.Mathlib.Nat.{mod-lt}
 use native.Mathlib.Decide.{dec_lt}
 use native.Mathlib.Numerals.{add-one}
@@ -81,18 +81,6 @@ module _ (b : List ℕ) (k m : ℕ) (small : m < 549755813888) where
           rw (le-ltb n 549755813888 (omega arith))
           (same-leb ((n + m) % 1099511627776) (2 * m) (suc (1099511627775 - n)) m (λ t. omega arith)
           (λ t. omega arith))
-
-  -- one that keeps it by far, by its two high bytes
-  pub keeps_high : (high : ℕ) → high ≡ get_or b (5 * k) 0 * 256 + get_or b (5 * k + 1) 0 → ((i : ℕ) → get_or b i 0 < 256)
-      → (high + m / 16777216) % 65536 < 2 * (m / 16777216) → true ≡ leb (nat_abs (number_at b k)) m
-  keeps_high high e bytes h =
-      let n = unsigned_at b k in
-      let b0 = bytes (5 * k) in
-      let b1 = bytes (5 * k + 1) in
-      let b2 = bytes (5 * k + 2) in
-      let b3 = bytes (5 * k + 3) in
-      let b4 = bytes (5 * k + 4) in
-      sym (le-leb ((n + m) % 1099511627776) (2 * m) (omega arith)) ∙ keeps-test n refl (omega arith)
 
 -- ---- the first numbers of a body
 

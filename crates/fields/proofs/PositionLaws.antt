@@ -3,7 +3,7 @@ use Rattle.std.specs.Prelude.{Result, Ok, Err}
 use mathlib.Core.Path.{◌≡◌, sym, ap, ap₂, ◌∙◌}
 use mathlib.Core.Bool.{Bool, true, false, not}
 use mathlib.Core.List.{List}
-use Prim.Native.Nat.{ℕ, ◌+◌, ◌-◌, ◌*◌, ◌≤◌, ◌<◌}
+use Prim.Native.Nat.{ℕ, ◌+◌, ◌-◌, ◌≤◌, ◌<◌}
 use native.Mathlib.Nat.{add-zero}
 use native.Mathlib.Omega.{arith}
 use borrow.Author.Tests.{leb-true, eq-eqb, ne_eqb, lt-ltb, le-ltb}
@@ -22,15 +22,6 @@ pub sizes : (n low high : ℕ) → between low high n ≡ true → (low ≤ n) �
 sizes n low high h =
     let k = both (leb low n) (leb n high) h in
     (leb-true low n k.0, leb-true n high k.1)
-
--- the length in the head at a position
-pub length-there : (file : List ℕ) (at : ℕ) (n : ℕ)
-    → n ≡ get_or file (at + 1) 0 * 256 + get_or file (at + 1 + 1) 0 → n ≡ length_at (drop at file)
-length-there file at n e =
-    e
-    ∙ ap₂ (λ x y. x * 256 + y) (sym (get_or-drop at file 1 0))
-    (ap (λ k. get_or file k 0) (omega arith) ∙ sym (get_or-drop at file 2 0))
-    ∙ omega arith
 
 pub body-size : (file : List ℕ) (at end : ℕ) → end ≤ length file → length (body_at file at end) ≡ end - (at + 3)
 body-size file at end h = simp (length-take, length-drop) (omega arith)

@@ -1,7 +1,7 @@
 -- Bytes put after bytes.
 use mathlib.Core.Path.{◌≡◌, refl, sym, ap, ap₂, ◌∙◌, subst}
 use mathlib.Core.List.{List, [], ◌∷◌, ◌++◌, append_assoc, append-nil}
-use Prim.Native.Nat.{ℕ, ◌+◌, ◌%◌, ◌<◌}
+use Prim.Native.Nat.{ℕ, ◌+◌, ◌<◌}
 use native.Mathlib.Nat.{zero-add}
 use native.Mathlib.Numerals.{add-one}
 use native.Mathlib.Omega.{arith}
@@ -38,13 +38,6 @@ pub put_front : (tree o : List ℕ) (r : ℕ) (p : List ℕ) → Put tree 0 o r 
 put_front tree o r p h =
     sym (take-append-drop r p)
     ∙ ap₂ ◌++◌ h.1 (h.2 ∙ ap (λ n. drop n o) (h.0 ∙ zero-add (length tree)))
-
--- the lowest byte of a number after what is put
-pub put_lowest : (a : List ℕ) (n at : ℕ) (o : List ℕ) (r : ℕ) (p : List ℕ) (s : ℕ) (q : List ℕ)
-    → Put a at o r p → Put (n % 256 ∷ []) r p s q → Put (a ++ byte_of 0 n ∷ []) at o s q
-put_lowest a n at o r p s q h k =
-    let e : n % 256 ≡ byte_of 0 n = omega arith in
-    put_both a (byte_of 0 n ∷ []) at o r p s q h (subst (λ b. Put (b ∷ []) r p s q) e k)
 
 -- ---- texts one after the other
 

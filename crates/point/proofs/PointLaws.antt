@@ -41,10 +41,6 @@ at-four P d {x} {y} {z} {w} a b c e = each (λ k. P k (get_or (x ∷ y ∷ z ∷
 
 -- ---- a patch's own coefficients
 
--- in the column from row b on that starts k places after the first
-pub column-place : (n a b k l from : ℕ) → from ≡ b * n + a + k → from + l * n ≡ (b + l) * n + (a + k)
-column-place n a b k l from e = omega (arith, add-mul b l n)
-
 -- the rows of four functions along v are inside the level's part
 pub rows_fit : (W H L b n : ℕ) → n ≡ functions W L → b + 3 < functions H L → (b + 4) * n ≤ places W H L
 rows_fit W H L b n columns hb =
