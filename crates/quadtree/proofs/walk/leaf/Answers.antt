@@ -2,6 +2,7 @@
 use mathlib.Core.Path.{◌≡◌, sym, ◌∙◌}
 use mathlib.Core.Bool.{true}
 use Prim.Native.Nat.{ℕ, ◌^◌, ◌≤◌}
+use native.Mathlib.Omega.{arith}
 use lib.ListN.{get_or}
 use Rattle.surface.specs.Quadtree.{leaf, well_formed}
 use Rattle.quadtree.proofs.WalkLaws.{form-low, judged-past, judged-bad, judged-leaf, short, side-some}
@@ -28,8 +29,9 @@ returns-then-not-leaf_formed c = judged-bad (short _ c.well_formed.0.1) c.requir
     (λ k p. sym c.if-not-leaf_formed.true ∙ c.leaf_formed.ensures k p)
 
 pub raise_square-requires : goal.raise_square-requires
-raise_square-requires c = let p = (start (goal.at.raise_square-requires c).Else-not-leaf_formed).requires in
-    (side-some p.0, p.0.in_u, p.0.in_v, low (goal.at.raise_square-requires c).Else-not-leaf_formed, p.3)
+raise_square-requires c = let e = (goal.at.raise_square-requires c).Else-not-leaf_formed in
+    let p = (start e).requires in
+    (side-some p.0, omega (arith, p.0.in_u, p.0.in_v), omega (arith, p.0.in_u, p.0.in_v), low e, p.3)
 
 pub returns : goal.returns
 returns c = let s = start (goal.at.returns c).Else-not-leaf_formed in
